@@ -183,6 +183,8 @@ _WORDS: Dict[str, _Word] = {
             _SNAPSHOT,
             ("policy", dict(metavar="POLICY", help="the rules, in TOML")),
             ("--each", dict(action="store_true", help="write one line per object and rule")),
+            ("--fix", dict(metavar="DIR", help="write mended lists into this new directory, with scripts that put them "
+                           "in place and back; nothing is applied")),
             *_PEOPLE, _DOMAIN, *_LINUX_OR_DRAFT, *_FORM]),
     "report": _Word(
         "make a page of HTML",

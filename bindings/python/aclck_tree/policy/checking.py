@@ -3,6 +3,7 @@
 from __future__ import annotations
 
 import argparse
+import functools
 import itertools
 from typing import Dict, Iterator, List, NamedTuple, Optional, Set, Tuple
 
@@ -15,6 +16,8 @@ from aclck_tree.answer.reach import tell_above
 from aclck_tree.output.errors import NO, REFUSED, YES
 from aclck_tree.output.text import ObjectName, ObjectNamer, Output, Row, plural, quoted, tell
 from aclck_tree.people.people import stranger_of
+from aclck_tree.policy.fix_files import refuse_fix
+from aclck_tree.policy.fixing import Fixing
 from aclck_tree.policy.judging import Breach, Judge, Verdict
 from aclck_tree.policy.obtaining import OBTAINABLE, ObtainingJudge
 from aclck_tree.policy.policies import Rule, names_in, read_policy
@@ -217,6 +220,15 @@ class _Check:
                        one, breaches) for one, breaches in rows]
         return self._known[key]
 
+    def not_kept(self, key: _Key, face: int) -> List[str]:
+        """Returns in words how the objects of a key would not keep the rules with another face. Who could come to have
+        a right is not asked again: nobody comes to have more because rights are taken out of lists."""
+        mended = self.found(key._replace(face=face, place=None))
+        steps = [one._replace(breaches=tuple(breach for breach in one.breaches if breach.bound == OBTAINABLE))
+                 for one in self.found(key)]
+        return [f"rule {quoted(self.policy.rules[one.applied.rule].name)}: {words_of(breach)}"
+                for one in (*mended, *steps) if one.verdict not in (_KEPT, _EXCEPTED) for breach in one.breaches]
+
     def rows(self, name: ObjectName, found: _Found) -> Iterator[Row]:
         """Yields a row for each breach."""
         rule = self.policy.rules[found.applied.rule]
@@ -238,6 +250,8 @@ def policy(args: argparse.Namespace) -> int:
     """Writes which objects break a rule of a policy, and for whom."""
     rules = read_policy(args.policy)
     snapshot = opened(args, args.snapshot)
+    if args.fix is not None:
+        refuse_fix(args.fix, snapshot)
     check = _Check(asker_of(args, snapshot, people_of(args, snapshot)), rules)
     counts = check.count()
     out = Output(args.form, check.naming.columns(*_COLUMNS), lambda row: None)
@@ -261,7 +275,23 @@ def policy(args: argparse.Namespace) -> int:
     is_unknown = any(one.verdict is Verdict.UNKNOWN for found in classes if found.verdict != _EXCEPTED
                      for one in found.breaches)
     status = NO if tally.get(Verdict.BROKEN.value) else YES
-    return status_of(REFUSED if _ended(args, check, counts, tally, out) or is_unknown else status, snapshot)
+    has_empty = _ended(args, check, counts, tally, out)
+    is_unmended = args.fix is not None and not _fix(args, check, counts, out)
+    return status_of(REFUSED if has_empty or is_unknown or is_unmended else status, snapshot)
+
+
+def _fix(args: argparse.Namespace, check: _Check, counts: Dict[_Key, Counted], out: Output) -> bool:
+    """Writes mended lists for what breaks a rule, and returns whether there is one for each object."""
+    fixing: Fixing[_Key] = Fixing(check.asker, args.fix)
+    for key, one in counts.items():
+        broken = [check.policy.rules[found.applied.rule].name for found in check.found(key)
+                  if found.verdict == Verdict.BROKEN]
+        if broken:
+            rules = [check.policy.rules[applied.rule] for applied in key.applied if applied.exemption is None]
+            fixing.mend(key, one, key.face, rules, broken, functools.partial(check.not_kept, key))
+    for line in fixing.write(check.keys()):
+        out.note(line)
+    return fixing.is_whole
 
 
 def _put_each(args: argparse.Namespace, check: _Check, out: Output) -> None:
