@@ -44,7 +44,6 @@ class ObjectToSet(NamedTuple):
         """Returns the whole path."""
         return self.mending.root.rstrip(b"/") + b"/" + self.path if self.path else self.mending.root
 
-
     @classmethod
     def read(cls, row: bytes, mendings: Sequence[Mending], has_inode: bool) -> "ObjectToSet":
         """Reads a row of `paths`, or of `applied`, which has inodes. Raises ValueError and LookupError."""
