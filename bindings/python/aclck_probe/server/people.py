@@ -26,11 +26,11 @@ class People(NamedTuple):
 
     @classmethod
     def free(cls) -> People:
-        """Returns people whom this system does not know. Raises TreeError if too few ids are free."""
+        """Returns people whom this system does not know, with six different ids, because a server may take the id of a
+        user for that of a group. Raises TreeError if too few ids are free."""
         found: List[Strangers] = []
-        for _ in range(3):
-            taken = [(AceFlag(0), one.user) for one in found] + [(AceFlag.IDENTIFIER_GROUP, one.group) for one in found]
-            aces = [Ace(ALLOW, flags, READ_DATA, str(number)) for flags, number in taken]
+        for _ in range(6):
+            taken = [number for one in found for number in (one.user, one.group)]
+            aces = [Ace(ALLOW, AceFlag(0), READ_DATA, str(number)) for number in taken]
             found.append(Strangers.to(NfsAcl.from_aces(aces), Owned(0, 0)))
-        first, second, third = found
-        return cls(first.user, first.group, (second.user, third.user), (second.group, third.group))
+        return cls(found[0].user, found[1].group, (found[2].user, found[3].user), (found[4].group, found[5].group))
