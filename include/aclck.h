@@ -135,7 +135,8 @@ enum aclck_reason {
     ACLCK_INHERITED_ACE = 42,
     ACLCK_RETENTION = 43,
     ACLCK_SEPARATOR = 44,
-    ACLCK_ACL_FLAGS = 45
+    ACLCK_ACL_FLAGS = 45,
+    ACLCK_TOO_MANY = 46
 };
 
 /* Parts of a POSIX ACL, in aclck_fault. */
@@ -681,6 +682,14 @@ enum aclck_status aclck_with_groups(aclck_bytes acl, const aclck_bytes *suffix, 
 ACLCK_CALL ACLCK_READS(2) ACLCK_WRITES(5) ACLCK_WRITES(6)
 enum aclck_status aclck_restricted(aclck_bytes acl, const aclck_bytes *bound, enum aclck_option options,
                                    aclck_buffer out, size_t *needed, aclck_fault *fault);
+
+/* The questions of the list, as XDR (docs/reference/formats.md): each is the owner and the owning group of an object,
+   and a user and the groups of that user. Another list that mentions no other principals, and that grants the same in
+   each question, grants the same to everybody. A list that mentions n principals has at most 1 + n + n(n-1)/2
+   questions. It is refused with ACLCK_TOO_MANY if it has more than `most`. Options: ACLCK_NARROW. */
+ACLCK_CALL ACLCK_WRITES(5) ACLCK_WRITES(6)
+enum aclck_status aclck_questions(aclck_bytes acl, uint32_t most, enum aclck_option options, aclck_buffer out,
+                                  size_t *needed, aclck_fault *fault);
 
 /* The text of the list, one line per ACE (docs/reference/formats.md). Options: ACLCK_NARROW. */
 ACLCK_CALL ACLCK_WRITES(4) ACLCK_WRITES(5)

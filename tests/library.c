@@ -561,12 +561,12 @@ static int are_reasons_right(void) {
         "Fields", "Flag", "Mask", "Tag", "Qualifier", "Id", "UnknownName", "Permission", "EmptyEntry", "Multi",
         "Duplicate", "Miss", "Limits", "Size", "Version", "Order", "Merged", "AclFlagBits", "IflagBits",
         "NotDirectory", "Empty", "IdDiffers", "Comment", "Nul", "TooLong", "NoId", "Inherited", "Retention",
-        "Separator", "AclFlags"};
+        "Separator", "AclFlags", "TooMany"};
     testcase none, *c = &none;
     int ok = 1;
     memset(c, 0, sizeof *c);
     strcpy(c->call, "reason_text");
-    for (uint32_t reason = 1; reason <= ACLCK_ACL_FLAGS; reason++) {
+    for (uint32_t reason = 1; reason <= ACLCK_TOO_MANY; reason++) {
         char room[16];
         size_t len = strlen(names[reason - 1]), needed = 0;
         memset(room, CANARY, sizeof room);
@@ -780,7 +780,7 @@ static int are_arguments_judged(void) {
     BAD(aclck_table(LIST, &hold, OUT));
     BAD(aclck_holders(LIST, &hold, OUT));
     BAD(aclck_reason_text(0, aclck_buffer_of(o.room, sizeof o.room), &o.r.needed));
-    BAD(aclck_reason_text(ACLCK_ACL_FLAGS + 1, aclck_buffer_of(o.room, sizeof o.room), &o.r.needed));
+    BAD(aclck_reason_text(ACLCK_TOO_MANY + 1, aclck_buffer_of(o.room, sizeof o.room), &o.r.needed));
     return ok & are_posix_arguments_judged(c);
 }
 
@@ -876,6 +876,7 @@ static int are_limits_kept(void) {
     REFUSED(aclck_compare(heavy, full, 0, &r.difference, room, &r.fault), ACLCK_TOO_HEAVY, mask_at, 0, 0, 0);
     REFUSED(aclck_excess(LIST, heavy, 0, &r.difference, room, &r.fault), ACLCK_TOO_HEAVY, mask_at, 0, 0, 1);
     REFUSED(aclck_restricted(LIST, &heavy, 0, TO), ACLCK_TOO_HEAVY, mask_at, 0, 0, 1);
+    REFUSED(aclck_questions(heavy, 0, 0, TO), ACLCK_TOO_HEAVY, mask_at, 0, 0, 0);
     REFUSED(aclck_implies(heavy, IMPLICATION(1, 2, 0), &r.difference, room, &r.fault), ACLCK_TOO_HEAVY, mask_at, 0, 0, 0);
     REFUSED(aclck_encode(too_many, 0, TO), ACLCK_TOO_MANY_ACES, 0, MOST_ACES + 1, 1, 0);
     REFUSED(aclck_encode(too_heavy, 0, TO), ACLCK_TOO_HEAVY, 0, MOST_ACES, 9, 0);

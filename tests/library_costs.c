@@ -151,6 +151,8 @@ static uint32_t invoke_list(const char *call, size_t len) {
         return aclck_with_groups(LIST, &suffix, ACLCK_FULL, OUT);
     if (IS("restricted"))
         return aclck_restricted(halves[0], &halves[1], ACLCK_FULL, OUT);
+    if (IS("questions"))
+        return aclck_questions(LIST, 10000, ACLCK_FULL, OUT);
     if (IS("read_form"))
         return aclck_read_form(LIST, ACLCK_NFS_TOOLS_DIRECTORY, ROOM_FOR_ALL, &needed, &flags, &fault);
     if (IS("write_form"))

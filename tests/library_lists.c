@@ -1,5 +1,5 @@
 /* Tests the calls of libaclck over NFSv4 lists that no command of aclck has: prepared lists, by names and by ids; ACE
- * by ACE; new modes; names exchanged; bounds; names that nobody knows.
+ * by ACE; new modes; names exchanged; bounds; questions; names that nobody knows.
  *
  *     library_lists LISTS [threads]
  *
@@ -17,7 +17,7 @@ enum { NAMES = 12, DIGITS = 11 };
 typedef struct {
     aclck_bytes acl;
     enum aclck_option options;
-    uint32_t mode;
+    uint32_t mode, most;
     aclck_names names;
     aclck_renamings table;
     aclck_object object;
@@ -41,6 +41,7 @@ WRITER(exchange, aclck_renamed(g->acl, &g->table, g->options, out, needed, fault
 WRITER(name_owner, aclck_resolved(g->acl, &g->object, g->options, out, needed, fault))
 WRITER(name_groups, aclck_with_groups(g->acl, &g->suffix, g->options, out, needed, fault))
 WRITER(keep_under, aclck_restricted(g->acl, &g->bound, g->options, out, needed, fault))
+WRITER(ask, aclck_questions(g->acl, g->most, g->options, out, needed, fault))
 WRITER(read_form, aclck_read_form(g->acl, g->form, out, needed, g->flags_read, fault))
 WRITER(write_form, aclck_write_form(g->acl, g->form, g->flags, out, needed, fault))
 WRITER(inherit, aclck_child(g->acl, g->options, out, needed, fault))
@@ -61,6 +62,7 @@ static given list_with(aclck_bytes acl, uint32_t options) {
     g.suffix = aclck_string("?");
     g.bound = aclck_bytes_of("\0\0\0\0", 4);
     g.aces.at = &no_ace;
+    g.most = UINT32_MAX;
     return g;
 }
 
@@ -606,6 +608,47 @@ static void is_kept_under(aclck_bytes acl, uint32_t options, const aclck_ace *ac
     free((void *)g.bound.at);
 }
 
+/* ---- questions */
+
+static const aclck_fault too_many = {0, 0, 0, ACLCK_TOO_MANY, 0, 0, 0};
+
+static size_t word_at(const unsigned char *at) {
+    return (size_t)at[0] << 24 | (size_t)at[1] << 16 | (size_t)at[2] << 8 | at[3];
+}
+
+/* Returns the place after a name, which has a byte at least, or `end` if there is no name. */
+static const unsigned char *after_name(const unsigned char *at, const unsigned char *end) {
+    const size_t room = (size_t)(end - at), len = room < 4 ? 0 : word_at(at), padded = (len + 3) / 4 * 4;
+    if (!EXPECT(len > 0 && len <= 1025 && padded + 4 <= room))
+        return end;
+    for (size_t i = len; i < padded; i++)
+        EXPECT(at[4 + i] == 0);
+    return at + 4 + padded;
+}
+
+/* All bytes are those of questions, and one question less is too few. */
+static void is_asked_completely(aclck_bytes acl, uint32_t options) {
+    given g = list_with(acl, options);
+    size_t len = 0, count = 0;
+    unsigned char *bytes = result_of(ask, &g, 1, &len);
+    if (EXPECT(bytes != NULL && len >= 4)) {
+        const unsigned char *at = bytes + 4, *end = bytes + len;
+        for (; at < end; count++) {
+            for (int i = 0; i < 3; i++)
+                at = after_name(at, end);
+            size_t groups = EXPECT(end - at >= 4) ? word_at(at) : 0;
+            for (at = end - at < 4 ? end : at + 4; groups > 0 && EXPECT(at < end); groups--)
+                at = after_name(at, end);
+        }
+        EXPECT(count == word_at(bytes));
+        g.most = (uint32_t)count;
+        writes(ask, &g, 1, bytes, len);
+        g.most--;
+        refuses(ask, &g, 1, too_many);
+    }
+    free(bytes);
+}
+
 /* ---- names that nobody knows */
 
 static int is_nothing_possible(const aclck_possible *possible) {
@@ -1036,6 +1079,67 @@ static void are_lists_restricted_by_hand(void) {
     }
 }
 
+/* RFC 4506, section 4.10. */
+static unsigned char *put_name(unsigned char *at, const char *name, size_t len) {
+    const size_t padded = (len + 3) / 4 * 4;
+    at = put_word(at, (uint32_t)len);
+    memset(at, 0, padded);
+    memcpy(at, name, len);
+    return at + padded;
+}
+
+/* Writes the questions of the text, in which a comma is behind each: the owner, the owning group, the user and the
+   groups. Returns the number of bytes. */
+static size_t put_questions(unsigned char *bytes, const char *text) {
+    unsigned char *at = bytes + 4, *groups_at = at;
+    uint32_t count = 0;
+    for (; *text; text++, count++) {
+        uint32_t names = 0;
+        while (*text != ',') {
+            const size_t len = strcspn(text, " ,");
+            at = put_name(at, text, len);
+            text += len + (text[len] == ' ');
+            if (++names == 3) {
+                groups_at = at;
+                at += 4;
+            }
+        }
+        put_word(groups_at, names - 3);
+    }
+    put_word(bytes, count);
+    return (size_t)(at - bytes);
+}
+
+/* Docs/reference/lists.md, "Comparison". */
+static void are_questions_asked_by_hand(void) {
+    static const struct {
+        const char *list, *asked;
+        uint32_t count;
+    } rows[] = {
+        {"", "o g u,", 1},
+        {"ALLOW - READ_DATA EVERYONE@\nDENY FILE|INHERITONLY WRITE_DATA bob\n", "o g u,", 1},
+        {"ALLOW - - OWNER@\nDENY - READ_DATA OWNER@\n", "o g u,u g u,", 2},
+        {"ALLOW - READ_DATA GROUP@\nALLOW - READ_DATA OWNER@\n", "o g u,u g u,o g u g,u g u g,", 4},
+        {"ALLOW - READ_DATA bo\nDENY - READ_DATA al\n", "ooo ggg uuu,ooo ggg al,ooo ggg bo,", 3},
+        {"ALLOW GROUP READ_DATA staff\nALLOW - READ_DATA amy\n",
+         "oooooo gggggg uuuuuu,oooooo gggggg amy,oooooo gggggg uuuuuu staff,oooooo gggggg amy staff,", 4},
+        {"ALLOW GROUP READ_DATA b\nDENY GROUP READ_DATA a\n", "oo gg uu,oo gg uu a,oo gg uu b,oo gg uu a b,", 4},
+        {"ALLOW GROUP READ_DATA a\nDENY - READ_DATA GROUP@\n", "oo gg uu,oo gg uu gg,oo gg uu a,oo a uu a,", 4},
+    };
+    const aclck_fault cut = {4, 0, 0, ACLCK_TRUNCATED, 0, 0, 0};
+    unsigned char bytes[512];
+    for (size_t i = 0; i < sizeof rows / sizeof *rows; i++) {
+        given g = list_with(list_of(rows[i].list), ACLCK_NARROW);
+        const size_t len = put_questions(bytes, rows[i].asked);
+        for (g.most = 0; g.most < rows[i].count; g.most++)
+            refuses(ask, &g, 1, too_many);
+        writes(ask, &g, 1, bytes, len);
+        g.acl = aclck_bytes_of("\0\0\0\1\0\0", 6);
+        g.most = 0;
+        refuses(ask, &g, 1, cut);
+    }
+}
+
 /* ---- forms of other systems */
 
 /* The list and the text of it in nfs4_setfacl(1), "EXAMPLES". */
@@ -1328,9 +1432,10 @@ static void are_bad_ids_refused(void) {
 
 static void are_bad_options_refused(void) {
     static writer *const writers[] = {prepare, prepare_ids, build, set_mode, exchange, name_owner, name_groups,
-                                     keep_under, inherit};
+                                     keep_under, ask, inherit};
     static const uint32_t own[] = {ACLCK_NARROW, ACLCK_NARROW, ACLCK_NARROW, ACLCK_NARROW,
                                    ACLCK_NARROW | ACLCK_MAY_MERGE, ACLCK_NARROW, ACLCK_NARROW, ACLCK_NARROW,
+                                   ACLCK_NARROW,
                                    ACLCK_NARROW | ACLCK_DIRECTORY | ACLCK_MARK_INHERITED};
     const aclck_bytes list = list_of("ALLOW - READ_DATA 7\n");
     for (size_t i = 0; i < sizeof writers / sizeof *writers; i++)
@@ -1517,6 +1622,7 @@ static void test_list(aclck_bytes acl, uint32_t options) {
         refuses(exchange, &g, 1, fault);
         refuses(name_owner, &g, 1, fault);
         refuses(keep_under, &g, 1, fault);
+        refuses(ask, &g, 1, fault);
         return;
     }
     aclck_ace *aces = room_for_aces(acl);
@@ -1526,8 +1632,10 @@ static void test_list(aclck_bytes acl, uint32_t options) {
     is_prepared(acl, options, &p);
     is_mode_set(acl, options, &p);
     is_exchanged_back(acl, options, &p);
-    if (acl.len < 2000)
+    if (acl.len < 2000) {
         is_kept_under(acl, options, aces, count);
+        is_asked_completely(acl, options);
+    }
     if (options == 0)
         is_child_marked(acl);
     for (int i = 0; i < 4; i++)
@@ -1542,6 +1650,7 @@ static void run_rows(void) {
         TEST(are_owners_named_by_hand), TEST(are_wrong_aces_refused), TEST(are_unknown_names_answered_by_hand),
         TEST(are_long_lists_answered_by_hand), TEST(are_prepared_bytes_those_of_the_form),
         TEST(are_groups_put_for_names_by_hand), TEST(are_lists_restricted_by_hand),
+        TEST(are_questions_asked_by_hand),
         TEST(are_forms_read_and_written_by_hand), TEST(are_other_values_refused), TEST(are_aces_left_out), TEST(are_lists_kept_out_of_forms),
         TEST(are_bad_questions_refused), TEST(are_lengths_judged), TEST(are_bad_ids_refused),
         TEST(are_bad_options_refused),

@@ -38,6 +38,8 @@ pub mod Normalized
 pub mod Pairs
 -- failures of lists for one object
 pub mod Resolutions
+-- the questions of a list
+pub mod Asking
 -- lists under a bound
 pub mod Restrictions
 -- the names of reasons

@@ -25,6 +25,7 @@ pub mod Posix
 pub mod PosixForms
 pub mod PosixWriting
 pub mod Prepared
+pub mod Questions
 pub mod Refusal
 pub mod Renaming
 pub mod Requests

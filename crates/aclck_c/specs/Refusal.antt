@@ -99,3 +99,15 @@ past_limits = record {
   part = 0;
   tag = 0;
 }
+
+-- the list has more questions than are taken
+abbrev pub too_many : Refusal
+too_many = record {
+  offset = 0;
+  line = 0;
+  column = 0;
+  reason = reason_called (codes "TooMany");
+  list = 0;
+  part = 0;
+  tag = 0;
+}

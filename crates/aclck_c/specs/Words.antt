@@ -25,7 +25,7 @@ reasons = (1, codes "Truncated") ∷ (2, codes "TooManyAces") ∷ (3, codes "Aud
     ∷ (30, codes "Version") ∷ (31, codes "Order") ∷ (32, codes "Merged") ∷ (33, codes "AclFlagBits")
     ∷ (34, codes "IflagBits") ∷ (35, codes "NotDirectory") ∷ (36, codes "Empty") ∷ (37, codes "IdDiffers")
     ∷ (38, codes "Comment") ∷ (39, codes "Nul") ∷ (40, codes "TooLong") ∷ (41, codes "NoId") ∷ (42, codes "Inherited")
-    ∷ (43, codes "Retention") ∷ (44, codes "Separator") ∷ (45, codes "AclFlags") ∷ []
+    ∷ (43, codes "Retention") ∷ (44, codes "Separator") ∷ (45, codes "AclFlags") ∷ (46, codes "TooMany") ∷ []
 
 -- the name of a number in a table of names
 abbrev pub name_in : List (ℕ × List ℕ) → ℕ → Option (List ℕ)

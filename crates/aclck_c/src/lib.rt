@@ -37,6 +37,7 @@ pub use nfs4::needed::aclck_needed;
 pub use nfs4::next::aclck_next;
 pub use nfs4::prepared::{aclck_decide_prepared, aclck_prepare};
 pub use nfs4::prepared_many::aclck_decide_prepared_many;
+pub use nfs4::questions::aclck_questions;
 pub use nfs4::renamed::{RawRenaming, RawRenamings, aclck_renamed};
 pub use nfs4::request::{RawObject, RawQuestion, RawRequester};
 pub use nfs4::resolved::aclck_resolved;

@@ -21,6 +21,7 @@ pub(crate) mod needed;
 pub(crate) mod next;
 pub(crate) mod prepared;
 pub(crate) mod prepared_many;
+pub(crate) mod questions;
 pub(crate) mod reading;
 pub(crate) mod renamed;
 pub(crate) mod request;

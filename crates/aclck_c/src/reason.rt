@@ -55,6 +55,7 @@ pub(crate) enum Reason {
     Retention = 43,
     Separator = 44,
     AclFlags = 45,
+    TooMany = 46,
 }
 
 impl Reason {
@@ -107,7 +108,7 @@ macro_rules! row {
 }
 
 // The reasons in ascending order of their numbers.
-static REASONS: [ReasonRow; 45] = [
+static REASONS: [ReasonRow; 46] = [
     row!(Truncated, b"Truncated"),
     row!(TooManyAces, b"TooManyAces"),
     row!(AuditOrAlarm, b"AuditOrAlarm"),
@@ -153,6 +154,7 @@ static REASONS: [ReasonRow; 45] = [
     row!(Retention, b"Retention"),
     row!(Separator, b"Separator"),
     row!(AclFlags, b"AclFlags"),
+    row!(TooMany, b"TooMany"),
 ];
 
 /// Returns the name of the reason with this number, or `None` if there is no such reason.

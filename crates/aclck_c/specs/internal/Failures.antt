@@ -12,6 +12,8 @@ use Rattle.acl_change.specs.declared.mode_change.ChmodFault.{ChmodFault}
 use Rattle.acl_change.specs.declared.mode_change.ChmodFault.TheVariants as chmod
 use Rattle.acl_change.specs.declared.resolving.ResolveFault.{ResolveFault}
 use Rattle.acl_change.specs.declared.resolving.ResolveFault.TheVariants as resolve
+use Rattle.acl_contain.specs.declared.asking.QuestionsFault.{QuestionsFault}
+use Rattle.acl_contain.specs.declared.asking.QuestionsFault.TheVariants as questions
 use Rattle.acl_posix.specs.Names.{Table}
 use Rattle.acl_forms.specs.PosixNames.{NamesOfIds}
 use Rattle.acl_posix.specs.declared.names.NameFault.{NameFault}
@@ -30,7 +32,8 @@ use Rattle.aclck_c.specs.Ids.{unknown_at}
 use Rattle.aclck_c.specs.Lists.{AreList, IsRefusedChmod, IsRefusedList}
 use Rattle.aclck_c.specs.Names.{AreGoodNames}
 use Rattle.aclck_c.specs.Posix.{IsRefusedBridge, IsRefusedPosix, posix_refusal}
-use Rattle.aclck_c.specs.Refusal.{in_list, merged, past_limits}
+use Rattle.aclck_c.specs.Questions.{AreRefusedQuestions}
+use Rattle.aclck_c.specs.Refusal.{in_list, merged, past_limits, too_many}
 use Rattle.aclck_c.specs.Resolving.{IsRefusedObject}
 use Rattle.aclck_c.specs.Unknown.{IsRefusedPart}
 use Rattle.aclck_c.specs.UnknownGroups.{IsRefusedNaming}
@@ -74,6 +77,11 @@ abbrev pub of_chmod : ChmodFault → Failure
 of_chmod chmod.Limits = failure.Refused past_limits
 of_chmod chmod.Memory = failure.Memory
 
+-- the failure of a list that has more questions than are taken
+abbrev pub of_questions : QuestionsFault → Failure
+of_questions questions.TooMany = failure.Refused too_many
+of_questions questions.Memory = failure.Memory
+
 -- the failure of a list that has no list for one object
 abbrev pub of_resolve : ResolveFault → Failure
 of_resolve (resolve.Name place) = failure.Refused (unknown_at place)
@@ -98,6 +106,10 @@ IsListFailure p bytes which = IsFailure ⊤ (IsRefusedList p bytes which) (AreLi
 -- the bytes of a list have the fault, the list is above a limit after its mode is set, or memory ran out
 abbrev pub IsChmodFailure : Profile → ℕ → List ℕ → Failure → Type 0
 IsChmodFailure p mode bytes = IsFailure ⊤ (IsRefusedChmod p mode bytes) (AreList p bytes)
+
+-- the bytes of a list have the fault, the list has more questions than are taken, or memory ran out
+abbrev pub AreQuestionsFailure : Profile → ℕ → List ℕ → Failure → Type 0
+AreQuestionsFailure p most bytes = IsFailure ⊤ (AreRefusedQuestions p most bytes) (AreList p bytes)
 
 -- the bytes of a list have the fault, an ACE needs a name that no ACE can have, or memory ran out
 abbrev pub IsObjectFailure : Profile → List ℕ → List ℕ → List ℕ → Failure → Type 0
