@@ -18,7 +18,7 @@ from .prepared import (
     Prepared,
     PreparedIds,
 )
-from .questions import Decided, Decision, Difference, Possible, Request, Requesters, TableRow
+from .questions import Decided, Decision, Difference, Possible, Question, Request, Requesters, TableRow
 from .rights import *
 from .tar_texts import TarStyle
 
@@ -42,6 +42,7 @@ __all__ = [
     "Possible",
     "Prepared",
     "PreparedIds",
+    "Question",
     "Refused",
     "Request",
     "Requesters",

@@ -250,7 +250,7 @@ _CALLS: "List[Tuple[str, List[Any]]]" = [
     ("decide_prepared", [*_asked, ctypes.POINTER(Decided)]),
     ("decide_prepared_many", [Bytes, ctypes.POINTER(Object), Requesters, ctypes.POINTER(Question), DecidedList]),
     ("mode", [Bytes, Word, _words, _fault]),
-    ("chmod write_form", [Bytes, Word, Word, *_out, _fault]),
+    ("chmod questions write_form", [Bytes, Word, Word, *_out, _fault]),
     ("build", [Aces, Word, *_out, _fault]),
     ("next", [Bytes, Word, ctypes.POINTER(_size), ctypes.POINTER(Ace), _fault]),
     ("renamed", [Bytes, ctypes.POINTER(Renamings), Word, *_out, _fault]),

@@ -57,7 +57,7 @@ def refused(name: str, offset: int, line: int, column: int, second: int, part: i
         return Refused(name, part=_PARTS[part], tag=_TAGS[tag])
     if name in ("Multi", "Duplicate"):
         return Refused(name, part=_PARTS[part], offset=offset)
-    if name == "Limits":
+    if name in ("Limits", "TooMany"):
         return Refused(name)
     if name in ("UnknownName", "Merged"):
         return Refused(name, ace=offset)

@@ -14,7 +14,8 @@ from .aces import Ace, AceKind
 from .faults import Refused
 from .forms import LeftOut, ListFlag, ListForm, TextStyle
 from .prepared import Prepared, PreparedIds
-from .questions import Decided, Decision, Difference, Possible, Request, Requesters, TableRow, decided, requester
+from .questions import (Decided, Decision, Difference, Possible, Question, Request, Requesters, TableRow, asked_in,
+                        decided, requester)
 from .rights import ALL
 from .tables import NamedIds, tables_in_c
 
@@ -358,6 +359,14 @@ class NfsAcl:
         only if `exceeds` returns None."""
         args = (self._list, bound._list, self._options & bound._options)
         return self._like(c.bytes_of("restricted", args, len(self._bytes)))
+
+    def questions(self, most: int) -> List[Question]:
+        """Returns the questions of this list. A list that mentions no other principals, and that grants the same as
+        this list in each question, grants everybody the same. Of n principals there are at most 1 + n + n(n-1)/2
+        (docs/reference/lists.md, "Comparison"). Raises Refused, with the reason TooMany, if there are more than `most`,
+        and ValueError if that is outside 32 bits."""
+        args = (self._list, c.word(most), self._options)
+        return asked_in(c.bytes_of("questions", args, 64 * (len(self) + 1)))
 
     def implies(self, right: int, others: int) -> Optional[Difference]:
         """Returns None if everybody to whom this list grants a right also gets each of some others, and otherwise a

@@ -3,7 +3,7 @@
 from __future__ import annotations
 
 import enum
-from typing import Iterable, NamedTuple, Sequence, Tuple
+from typing import Iterable, List, NamedTuple, Sequence, Tuple
 
 from . import _library as c
 from ._library import Name
@@ -35,6 +35,16 @@ class Difference(NamedTuple):
     groups: Tuple[str, ...]
     right: int
     first_grants: bool
+
+
+class Question(NamedTuple):
+    """An object and a requester: the owner and the owning group of the object, and the user and the groups of the
+    requester."""
+
+    owner: str
+    group: str
+    user: str
+    groups: Tuple[str, ...]
 
 
 class Request(enum.Enum):
@@ -71,6 +81,34 @@ class TableRow(NamedTuple):
 def decided(found: c.Decided, mask: int) -> Decided:
     """Returns an answer of C about the rights of a mask."""
     return Decided(found.allowed, found.denied, mask & ~(found.allowed | found.denied))
+
+
+def asked_in(data: bytes) -> List[Question]:
+    """Returns the questions that the library wrote as XDR (docs/reference/formats.md)."""
+    block = _Block(data)
+    return [block.question() for _ in range(block.word())]
+
+
+class _Block:
+    """XDR that the library wrote (RFC 4506), which is read from the front."""
+
+    def __init__(self, data: bytes) -> None:
+        self._data, self._at = data, 0
+
+    def question(self) -> Question:
+        owner, group, user = self.name(), self.name(), self.name()
+        return Question(owner, group, user, tuple(self.name() for _ in range(self.word())))
+
+    def word(self) -> int:
+        return int.from_bytes(self._taken(4), "big")
+
+    def name(self) -> str:
+        length = self.word()
+        return c.decoded(self._taken(length + -length % 4)[:length])
+
+    def _taken(self, size: int) -> bytes:
+        self._at += size
+        return self._data[self._at - size:self._at]
 
 
 def requester(user: Name, groups: Iterable[Name]) -> c.Requester:

@@ -4,12 +4,10 @@ from __future__ import annotations
 
 from typing import AbstractSet, NamedTuple, Protocol, Tuple
 
-from aclck import NfsAcl
+from aclck import NfsAcl, Question
 from aclck_tree.output.errors import TreeError
 from aclck_tree.people.accounts import known_name
 from aclck_tree.people.people import read_id
-
-from .questions import Question
 
 _FREE = range(59999, 999, -1)
 """Where free ids are looked for. Below are those of the system, and above those that are kept for other uses."""
