@@ -14,14 +14,13 @@ use Rattle.acl_nfs4.specs.Who.{is_unknown_special}
 use Rattle.acl_nfs4.specs.internal.Reading.{Place}
 use Rattle.acl_nfs4.proofs.Exports.{weight-push}
 use Rattle.acl_forms.specs.Part.{PlacedAce, any_weight, kept, kept_unless, left_out, noted_if, reason_of}
-unfoldable use Rattle.acl_forms.specs.PartWords.{aces_from}
-use Rattle.acl_forms.specs.PartWords.{AceReader}
 use Rattle.acl_forms.specs.declared.fault.ReadFault.{ReadFault}
 use Rattle.acl_forms.specs.declared.part.any_ace.AnyAceRef.{AnyAceRef}
 use Rattle.acl_forms.specs.declared.part.left_out.LeftOut.{LeftOut}
 use Rattle.acl_forms.specs.declared.part.left_out.LeftOutReason.{LeftOutReason}
 use Rattle.acl_forms.specs.declared.part.left_out.LeftOutReason.TheVariants.{AuditOrAlarm, SpecialWho}
-use Rattle.acl_forms.specs.internal.AnyAces.{HasAnyName, any_ace_of, any_name, left_out_from}
+use Rattle.acl_forms.specs.internal.AnyAces.{AceReader, HasAnyName, any_ace_of, any_name, left_out_from}
+unfoldable use Rattle.acl_forms.specs.internal.AnyAces.{aces_from}
 use Rattle.acl_forms.proofs.AnyNames.{is_who-any}
 use Rattle.acl_forms.proofs.IdLemmas.{accepted_push}
 

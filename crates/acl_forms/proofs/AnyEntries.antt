@@ -20,7 +20,6 @@ use Rattle.acl_nfs4.specs.declared.list.push_fault.PushFault.TheVariants.{TooHea
 use Rattle.acl_nfs4.specs.declared.xdr.fault.Reason.TheVariants as list
 use Rattle.acl_posix.specs.declared.id.Id.{Id}
 use Rattle.acl_nfs4.proofs.Exports.{bind-ok, bind_then, guard_ok, ok_is, is_who-decimal}
-use Rattle.acl_forms.specs.Acl41Ids.{listed}
 use Rattle.acl_forms.specs.Letters.{flag_letters, nfs_flag_letters, nfs_right_letters, no_letter, right_letters, set_of_letters}
 use Rattle.acl_forms.specs.NfsText.{NfsFields, flags_by_tag, nfs_fields_read, nfs_kind, nfs_type, tag_special, who_by_tag}
 unfoldable use Rattle.acl_forms.specs.NfsText.{nfs_ace, nfs_entry}
@@ -33,6 +32,7 @@ use Rattle.acl_forms.specs.PartWords.{who_by_name}
 use Rattle.acl_forms.specs.ReadFaults.{read_fault_at}
 use Rattle.acl_forms.specs.ToolsText.{Fields, fields_read, kind_at, kind_read, taken, type_read, unless_refused, with_group_flag}
 unfoldable use Rattle.acl_forms.specs.ToolsText.{tools_ace, tools_entry}
+use Rattle.acl_forms.specs.Words.{listed}
 use Rattle.acl_forms.specs.declared.fault.ReadFault.{ReadFault}
 use Rattle.acl_forms.specs.declared.fault.ReadReason.{ReadReason}
 use Rattle.acl_forms.specs.declared.fault.ReadReason.TheVariants as reasons

@@ -16,9 +16,9 @@ use Rattle.acl_nfs4.specs.Within.{IsWithin}
 use Rattle.acl_nfs4.specs.internal.Progress.{IsBytes}
 use Rattle.acl_nfs4.specs.internal.Reading.{Place}
 use Rattle.acl_nfs4.specs.declared.xdr.fault.Reason.{Reason}
-use Rattle.acl_forms.specs.Acl41Ids.{id_ace_bytes, id_piece, listed, special_of, id_who_of, whom_words}
-unfoldable use Rattle.acl_forms.specs.Acl41Ids.{id_ace_at}
-use Rattle.acl_forms.specs.Words.{word_at}
+use Rattle.acl_forms.specs.Acl41Ids.{id_ace_bytes, id_piece, special_of, id_who_of, whom_words}
+use Rattle.acl_forms.specs.Words.{listed, word_at}
+unfoldable use Rattle.acl_forms.specs.internal.IdAces.{id_ace_at}
 use Rattle.acl_forms.proofs.WhoLemmas.{reads_who, says_who}
 use Rattle.acl_forms.proofs.WordLemmas.{word_again, word_takes}
 

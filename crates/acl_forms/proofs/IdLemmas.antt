@@ -17,19 +17,18 @@ use Rattle.acl_nfs4.specs.internal.Progress.{IsBytes}
 use Rattle.acl_nfs4.specs.internal.Reading.{Place}
 use Rattle.acl_nfs4.specs.declared.xdr.fault.Reason.TheVariants.{TrailingBytes}
 use Rattle.acl_forms.specs.AclFlags.{IsAclFlags}
-use Rattle.acl_forms.specs.Acl41Ids.{EachHasId, IsAcl41Ids, IsAcl41IdsFault, acl41_ids_bytes, nothing_after, id_piece, listed}
-use Rattle.acl_forms.specs.Acl41Ids.{id_ace_at}
-unfoldable use Rattle.acl_forms.specs.Acl41Ids.{acl41_ids_in, id_aces_from}
+use Rattle.acl_forms.specs.Acl41Ids.{EachHasId, IsAcl41Ids, acl41_ids_bytes, id_piece}
 use Rattle.acl_forms.specs.ReadFaults.{read_fault_at}
-use Rattle.acl_forms.specs.Words.{ReadsForm, RefusesForm, acl_flags_of, start, word_at}
+use Rattle.acl_forms.specs.Words.{ReadsForm, acl_flags_of, listed, start, word_at}
 use Rattle.acl_forms.specs.declared.acl_flags.AclFlags.{AclFlags}
 use Rattle.acl_forms.specs.declared.fault.ReadFault.{ReadFault}
 use Rattle.acl_forms.specs.declared.fault.ReadReason.TheVariants as reason
 use Rattle.acl_forms.specs.declared.acl41_ids.IdAce.{IdAce}
 use Rattle.acl_forms.specs.declared.acl41_ids.IdWho.{IdWho}
 use Rattle.acl_forms.specs.declared.acl41_ids.IdWho.TheVariants.{Owner, Group, Everyone, Account}
-use Rattle.acl_forms.specs.internal.IdAces.{ReadAs, ace_by_id, whom_name, flags_and_list}
-use Rattle.acl_forms.proofs.WordLemmas.{flags_again, flags_found, word_again, word_takes}
+use Rattle.acl_forms.specs.internal.IdAces.{ReadAs, ace_by_id, flags_and_list, id_ace_at, nothing_after, whom_name}
+unfoldable use Rattle.acl_forms.specs.internal.IdAces.{acl41_ids_in, id_aces_from}
+use Rattle.acl_forms.proofs.WordLemmas.{SpelledTo, flags_again, flags_found, word_again, word_takes}
 use Rattle.acl_forms.proofs.IdAces.{ace_again, ace_takes, listed_again, listed_ok}
 
 -- ---- the ACEs
@@ -89,6 +88,7 @@ ids_take (suc n) list p x fits ok few e =
 -- ACEs with ids are read again after a list
 record ReadsIds (more list : List Ace) (at : ℕ) (rest : List ℕ) : Type 0 where
   pub end : ℕ
+  pub here : end ≡ at + length (flat_map id_piece more)
   pub read : id_aces_from (length more) list (place at (flat_map id_piece more ++ rest))
       ≡ Ok (list ++ more, place end rest)
 
@@ -96,8 +96,11 @@ record ReadsIds (more list : List Ace) (at : ℕ) (rest : List ℕ) : Type 0 whe
 ids_again : (more list : List Ace) (at : ℕ) (rest : List ℕ) → IsAccepted full (list ++ more) → EachHasId more
     → ReadsIds more list at rest
 unfolding id_aces_from
-ids_again [] list at rest ok ids =
-    record { end = at; read = ap (λ (l : List Ace). Ok (l, place at rest)) (sym (append-nil list)) }
+ids_again [] list at rest ok ids = record {
+  end = at;
+  here = omega arith;
+  read = ap (λ (l : List Ace). Ok (l, place at rest)) (sym (append-nil list));
+}
 ids_again (a ∷ more) list at rest ok ids =
     let same = append_assoc list (a ∷ []) more in
     let longer : IsAccepted full ((list ++ a ∷ []) ++ more) = subst (IsAccepted full) (sym same) ok in
@@ -107,6 +110,14 @@ ids_again (a ∷ more) list at rest ok ids =
     let s = ids_again more (list ++ a ∷ []) (at + 4 + 4 + 4 + 4 + 4) rest longer ids.1 in
     record {
       end = s.end;
+      here =
+          let twenty : length (id_piece a) ≡ 20 = refl in omega (
+            arith,
+            s.here,
+            twenty,
+            ap length (flat_map-cons id_piece a more),
+            length-append (id_piece a) (flat_map id_piece more),
+          );
       read =
           ap (λ (t : List ℕ). id_aces_from (suc (length more)) list (place at t))
           (ap (λ (t : List ℕ). t ++ rest) (flat_map-cons id_piece a more)
@@ -170,6 +181,43 @@ as_pair : (flags : ℕ) (list : List Ace) (bytes : List ℕ) (x : ℕ × List Ac
     → IsAcl41Ids flags list bytes → IsAcl41Ids x.0 x.1 bytes
 as_pair flags list bytes x e h = subst (λ (y : ℕ × List Ace). IsAcl41Ids y.0 y.1 bytes) e h
 
+-- flags, a count and ACEs that were read were spelled
+pub ids_front : (bytes : List ℕ) (f c : ℕ × Place) (l : List Ace × Place) → IsBytes bytes
+    → word_at acl_flags_of (start bytes) ≡ Ok f → word_at (λ n. listed (count_of n)) f.1 ≡ Ok c
+    → id_aces_from c.0 [] c.1 ≡ Ok l → SpelledTo (IsAcl41Ids f.0 l.0) bytes l.1
+ids_front bytes f c l fits fe ce le =
+    let ft = word_takes acl_flags_of (start bytes) f fits fe in
+    let flags = flags_found bytes f.0 f.1 fits fe in
+    let ct = word_takes (λ n. listed (count_of n)) f.1 c flags.2 ce in
+    let count = count_is ct.number c.0 (listed_ok (count_of ct.number) c.0 ct.accepted) in
+    let none : IsAccepted full [] = record { count = omega arith; weight = omega arith; each = tt } in
+    let t = ids_take c.0 [] c.1 l ct.takes.bytes none (omega (arith, count.1)) le in
+    let body : List ℕ = flat_map id_piece t.more in
+    let same : l.0 ≡ t.more = t.is in
+    let parts : f.1.rest ≡ (word (length t.more) ++ body) ++ l.1.rest =
+    ct.takes.parts ∙ ap (λ (n : ℕ). word n ++ c.1.rest) (count.0 ∙ sym t.long)
+    ∙ ap (λ (r : List ℕ). word (length t.more) ++ r) t.takes.parts
+    ∙ sym (append_assoc (word (length t.more)) body l.1.rest) in
+    record {
+      text = acl41_ids_bytes f.0 t.more;
+      is = record {
+        flags = flags.0;
+        accepted = t.accepted;
+        ids = subst EachHasId (sym same) t.ids;
+        spelled = ap (acl41_ids_bytes f.0) (sym same);
+      };
+      parts = flags.1 ∙ ap (λ (r : List ℕ). word f.0 ++ r) parts
+          ∙ sym (append_assoc (word f.0) (word (length t.more) ++ body) l.1.rest);
+      here = omega (
+        arith,
+        ft.takes.counted,
+        ct.takes.counted,
+        t.takes.counted,
+        length-append (word f.0) (word (length t.more) ++ body),
+        length-append (word (length t.more)) body,
+      );
+    }
+
 -- what was read was spelled
 pub ids_spelled : (bytes : List ℕ) (x : ℕ × List Ace) → IsBytes bytes → acl41_ids_in bytes ≡ Ok x
     → IsAcl41Ids x.0 x.1 bytes
@@ -178,40 +226,41 @@ ids_spelled bytes x fits e =
     bind_then (word_at acl_flags_of (start bytes)) _ x e (λ f fe fr.
     bind_then (word_at (λ n. listed (count_of n)) f.1) _ x fr (λ c ce cr.
     bind_then (id_aces_from c.0 [] c.1) _ x cr (λ l le lr.
-    let flags = flags_found bytes f.0 f.1 fits fe in
-    let ct = word_takes (λ n. listed (count_of n)) f.1 c flags.2 ce in
-    let count = count_is ct.number c.0 (listed_ok (count_of ct.number) c.0 ct.accepted) in
-    let none : IsAccepted full [] = record { count = omega arith; weight = omega arith; each = tt } in
-    let t = ids_take c.0 [] c.1 l ct.takes.bytes none (omega (arith, count.1)) le in
+    let t = ids_front bytes f c l fits fe ce le in
     let last = ended f.0 l x lr in
-    let body : List ℕ = flat_map id_piece t.more in
-    let same : l.0 ≡ t.more = t.is in
-    let parts : f.1.rest ≡ word (length t.more) ++ body =
-    ct.takes.parts ∙ ap (λ (n : ℕ). word n ++ c.1.rest) (count.0 ∙ sym t.long)
-    ∙ ap (λ (r : List ℕ). word (length t.more) ++ r)
-    (t.takes.parts ∙ ap (λ (r : List ℕ). body ++ r) last.1 ∙ append-nil body) in
-    as_pair f.0 t.more bytes x (ap (λ (z : List Ace). (f.0, z)) (sym same) ∙ last.0)
-    (record {
-      flags = flags.0;
-      accepted = subst (IsAccepted full) same t.accepted;
-      ids = t.ids;
-      spelled = flags.1 ∙ ap (λ (r : List ℕ). word f.0 ++ r) parts;
-    }))))
+    let whole : bytes ≡ t.text = t.parts ∙ ap (λ (r : List ℕ). t.text ++ r) last.1 ∙ append-nil t.text in
+    as_pair f.0 l.0 bytes x last.0 (subst (IsAcl41Ids f.0 l.0) (sym whole) t.is))))
+
+-- what was spelled is read again before other bytes
+pub ids_read_before : (text rest : List ℕ) (flags : ℕ) (list : List Ace) → IsAcl41Ids flags list text
+    → acl41_ids_in (text ++ rest) ≡ nothing_after flags (list, place (length text) rest)
+unfolding acl41_ids_in
+ids_read_before text rest flags list is =
+    let n : ℕ = length list in
+    let body : List ℕ = flat_map id_piece list in
+    let s = ids_again list [] 8 rest is.accepted is.ids in
+    let c = is.accepted.count in
+    let parts : text ++ rest ≡ word flags ++ (word n ++ (body ++ rest)) =
+    ap (λ (t : List ℕ). t ++ rest) is.spelled ∙ append_assoc (word flags) (word n ++ body) rest
+    ∙ ap (λ (t : List ℕ). word flags ++ t) (append_assoc (word n) body rest) in
+    let here : s.end ≡ length text = omega (
+      arith,
+      s.here,
+      ap length is.spelled,
+      length-append (word flags) (word n ++ body),
+      length-append (word n) body,
+    ) in
+    bind-ok _ (flags_again (text ++ rest) flags (word n ++ (body ++ rest)) is.flags parts)
+    ∙ bind-ok _ (word_again (λ n. listed (count_of n)) 4 n (body ++ rest) n (omega (arith, c))
+    (listed_again _ n (count_again n c)))
+    ∙ bind-ok (nothing_after flags) s.read
+    ∙ ap (λ (k : ℕ). nothing_after flags (list, place k rest)) here
 
 -- what was spelled is read again
 pub ids_read : (bytes : List ℕ) (flags : ℕ) (list : List Ace) → IsAcl41Ids flags list bytes
     → acl41_ids_in bytes ≡ Ok (flags, list)
-unfolding acl41_ids_in
 ids_read bytes flags list is =
-    let n : ℕ = length list in
-    let body : List ℕ = flat_map id_piece list in
-    let s = ids_again list [] 8 [] is.accepted is.ids in
-    let c = is.accepted.count in
-    bind-ok _ (flags_again bytes flags (word n ++ body) is.flags is.spelled)
-    ∙ bind-ok _ (ap (λ (t : List ℕ). word_at (λ n. listed (count_of n)) (place 4 (word n ++ t)))
-    (sym (append-nil body))
-    ∙ word_again (λ n. listed (count_of n)) 4 n (body ++ []) n (omega (arith, c)) (listed_again _ n (count_again n c)))
-    ∙ bind-ok (nothing_after flags) s.read
+    ap acl41_ids_in (sym (append-nil bytes)) ∙ ids_read_before bytes [] flags list is
 
 -- bytes spell at most one pair of flags and a list
 pub one_value : (flags set : ℕ) (list other : List Ace) (bytes : List ℕ) → IsAcl41Ids flags list bytes
@@ -249,10 +298,3 @@ module _ (bytes : List ℕ) (fits : IsBytes bytes) where
   ] where
     apart : {x : ℕ × List Ace} {f : ReadFault} → Err f ≡ Ok x → ⊥
     apart e = cc
-
-  -- bytes with a fault are refused with that fault, unless memory runs out
-  pub ids_refused : (result : Result (AclFlags × List Ace) ReadFault)
-      → ReadAs flags_and_list result (acl41_ids_in bytes) → (wrong : ReadFault) → IsAcl41IdsFault bytes wrong
-      → RefusesForm result wrong
-  ids_refused (Ok x) h wrong g = cc
-  ids_refused (Err e) h wrong g = elim h [ inl memory ↦ inr memory | inr said ↦ inl cc ]

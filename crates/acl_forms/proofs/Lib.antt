@@ -9,6 +9,10 @@ pub mod AnyAces
 pub mod PartAnswers
 pub mod PartLists
 pub mod PartWords
+pub mod FieldFaults
+pub mod AclFaults
+pub mod IdFaults
+pub mod PartFaults
 pub mod WholeLists
 pub mod ReadAnswers
 pub mod LetterLemmas

@@ -1,9 +1,10 @@
 -- What a call that reads a part answers: the part of what is spelled, or the one fault.
 use Rattle.std.proofs.Common.{◌≡◌, ◌∙◌, ℕ, List, Result, Ok, Err, ap, sym, subst, inl, inr}
-use Rattle.std.specs.Prelude.{IfOk}
+use Rattle.std.specs.Prelude.{◌⊎◌, IfErr, IfOk}
 use Rattle.acl_nfs4.specs.Ace.{Ace}
 use Rattle.acl_nfs4.proofs.Exports.{ok_is}
 use Rattle.acl_forms.specs.Part.{PlacedAce, IsReadAsPart, RefusesPart, SpellsPart, kept, left_out}
+use Rattle.acl_forms.specs.ReadFaults.{no_memory_left}
 use Rattle.acl_forms.specs.declared.fault.ReadFault.{ReadFault}
 use Rattle.acl_forms.specs.declared.part.ReadablePart.{ReadablePart}
 use Rattle.acl_forms.specs.declared.part.left_out.LeftOut.{LeftOut}
@@ -39,6 +40,14 @@ part_only Spells said read (Err f) (inr was) set list out h = absurd (apart (sym
   where
     apart : {x : ℕ × List PlacedAce} {f : ReadFault} → Err f ≡ Ok x → ⊥
     apart e = cc
+
+-- a fault that is returned is that of what is read, unless memory ran out
+pub part_fault : (IsFault : ReadFault → Type 0) (said : Result (ℕ × List PlacedAce) ReadFault)
+    → ((f : ReadFault) → said ≡ Err f → IsFault f) → (result : Result ReadablePart ReadFault)
+    → IsPartReadAs result said → IfErr result (λ fault. (fault ≡ no_memory_left) ⊎ IsFault fault)
+part_fault IsFault said fails (Ok part) h = tt
+part_fault IsFault said fails (Err f) (inl memory) = inl memory
+part_fault IsFault said fails (Err f) (inr was) = inr (fails f was)
 
 -- what has a fault is refused with that fault, unless memory runs out
 pub part_refused : (said : Result (ℕ × List PlacedAce) ReadFault) (result : Result ReadablePart ReadFault)

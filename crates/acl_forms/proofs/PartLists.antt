@@ -15,22 +15,23 @@ use Rattle.acl_nfs4.specs.Spelling.{word}
 use Rattle.acl_nfs4.specs.declared.xdr.fault.Reason.TheVariants.{Truncated}
 use Rattle.acl_nfs4.specs.internal.Progress.{IsBytes}
 use Rattle.acl_nfs4.specs.internal.Reading.{Place}
-use Rattle.acl_forms.specs.Acl41Ids.{listed, nothing_after}
 use Rattle.acl_forms.specs.Part.{PlacedAce, IsReadAsPart, SpellsPart, any_weight, is_unknown_deny}
-use Rattle.acl_forms.specs.PartWords.{AceReader, IsPartAce, SpelledAce, SpellsWhole, bytes_at, judged_bytes}
-unfoldable use Rattle.acl_forms.specs.PartWords.{aces_from, placed_from, whole_in}
+use Rattle.acl_forms.specs.PartWords.{IsPartAce, SpelledAce, SpellsWhole}
+unfoldable use Rattle.acl_forms.specs.PartWords.{placed_from}
 use Rattle.acl_forms.specs.ReadFaults.{read_fault_at}
-use Rattle.acl_forms.specs.Words.{acl_flags_of, start, word_at}
+use Rattle.acl_forms.specs.Words.{acl_flags_of, listed, start, word_at}
 use Rattle.acl_forms.specs.declared.fault.ReadFault.{ReadFault}
 use Rattle.acl_forms.specs.declared.fault.ReadReason.{ReadReason}
 use Rattle.acl_forms.specs.declared.fault.ReadReason.TheVariants as reason
 use Rattle.acl_forms.specs.declared.part.ReadablePart.{ReadablePart}
 use Rattle.acl_forms.specs.declared.part.left_out.LeftOut.{LeftOut}
-use Rattle.acl_forms.specs.internal.AnyAces.{IsPartReadAs}
+use Rattle.acl_forms.specs.internal.AnyAces.{AceReader, IsPartReadAs, bytes_at, judged_bytes}
+unfoldable use Rattle.acl_forms.specs.internal.AnyAces.{aces_from, whole_in}
+use Rattle.acl_forms.specs.internal.IdAces.{nothing_after}
 use Rattle.acl_forms.proofs.IdAces.{listed_again, listed_ok}
 use Rattle.acl_forms.proofs.IdLemmas.{ended}
 use Rattle.acl_forms.proofs.PartAnswers.{part_found, part_only}
-use Rattle.acl_forms.proofs.WordLemmas.{flags_again, flags_found, word_again, word_takes}
+use Rattle.acl_forms.proofs.WordLemmas.{SpelledTo, flags_again, flags_found, word_again, word_takes}
 
 -- ---- any bytes
 
@@ -174,6 +175,46 @@ module _ {Spells : AnyAce → List ℕ → Type 0} {read : AceReader} (reader : 
       ∙ ap (λ (k : ℕ). Ok (list ++ one ∷ placed_from (at + length s.bytes) more, place k rest))
       (omega (arith, ap length (flat_map-cons bytes_of s more), length-append s.bytes (flat_map bytes_of more)))
 
+  -- flags, a count and ACEs that were read were spelled
+  pub whole_front : (bytes : List ℕ) (f c : ℕ × Place) (l : List PlacedAce × Place) → IsBytes bytes
+      → word_at acl_flags_of (start bytes) ≡ Ok f → word_at (λ n. listed (count_of n)) f.1 ≡ Ok c
+      → aces_from read c.0 [] c.1 ≡ Ok l → SpelledTo (SpellsWhole Spells f.0 l.0) bytes l.1
+  whole_front bytes f c l fits fe ce le =
+      let flags = flags_found bytes f.0 f.1 fits fe in
+      let ft = word_takes acl_flags_of (start bytes) f fits fe in
+      let ct = word_takes (λ n. listed (count_of n)) f.1 c flags.2 ce in
+      let count = count_is ct.number c.0 (listed_ok (count_of ct.number) c.0 ct.accepted) in
+      let t = aces_take c.0 [] c.1 l ct.takes.bytes (omega arith) le in
+      let body : List ℕ = flat_map bytes_of t.more in
+      let head : List ℕ = word (length t.more) ++ body in
+      let eight : c.1.at ≡ 8 = omega (arith, ft.takes.counted, ct.takes.counted) in
+      let parts : f.1.rest ≡ head ++ l.1.rest =
+      ct.takes.parts ∙ ap (λ (n : ℕ). word n ++ c.1.rest) (count.0 ∙ sym t.long)
+      ∙ ap (λ (r : List ℕ). word (length t.more) ++ r) t.takes.parts
+      ∙ sym (append_assoc (word (length t.more)) body l.1.rest) in
+      record {
+        text = word f.0 ++ head;
+        is = (
+          t.more,
+          t.is ∙ ap (λ (at : ℕ). placed_from at t.more) eight,
+          record {
+            flags = flags.0;
+            count = omega (arith, t.long, count.1);
+            weight = omega (arith, t.light);
+            each = t.each;
+            spelled = refl;
+          },
+        );
+        parts = flags.1 ∙ ap (λ (r : List ℕ). word f.0 ++ r) parts ∙ sym (append_assoc (word f.0) head l.1.rest);
+        here = omega (
+          arith,
+          eight,
+          t.takes.counted,
+          length-append (word f.0) head,
+          length-append (word (length t.more)) body,
+        );
+      }
+
   -- what was read was spelled
   pub whole_spelled : (bytes : List ℕ) (x : ℕ × List PlacedAce) → IsBytes bytes → whole_in read bytes ≡ Ok x
       → SpellsWhole Spells x.0 x.1 bytes
@@ -182,46 +223,42 @@ module _ {Spells : AnyAce → List ℕ → Type 0} {read : AceReader} (reader : 
       bind_then (word_at acl_flags_of (start bytes)) _ x e (λ f fe fr.
       bind_then (word_at (λ n. listed (count_of n)) f.1) _ x fr (λ c ce cr.
       bind_then (aces_from read c.0 [] c.1) _ x cr (λ l le lr.
-      let flags = flags_found bytes f.0 f.1 fits fe in
-      let ft = word_takes acl_flags_of (start bytes) f fits fe in
-      let ct = word_takes (λ n. listed (count_of n)) f.1 c flags.2 ce in
-      let count = count_is ct.number c.0 (listed_ok (count_of ct.number) c.0 ct.accepted) in
-      let t = aces_take c.0 [] c.1 l ct.takes.bytes (omega arith) le in
+      let t = whole_front bytes f c l fits fe ce le in
       let last = ended f.0 l x lr in
-      let body : List ℕ = flat_map bytes_of t.more in
-      let eight : c.1.at ≡ 8 = omega (arith, ft.takes.counted, ct.takes.counted) in
-      let parts : f.1.rest ≡ word (length t.more) ++ body =
-      ct.takes.parts ∙ ap (λ (n : ℕ). word n ++ c.1.rest) (count.0 ∙ sym t.long)
-      ∙ ap (λ (r : List ℕ). word (length t.more) ++ r)
-      (t.takes.parts ∙ ap (λ (r : List ℕ). body ++ r) last.1 ∙ append-nil body) in
-      subst (λ (y : ℕ × List PlacedAce). SpellsWhole Spells y.0 y.1 bytes) last.0 (
-        t.more,
-        t.is ∙ ap (λ (at : ℕ). placed_from at t.more) eight,
-        record {
-          flags = flags.0;
-          count = omega (arith, t.long, count.1);
-          weight = omega (arith, t.light);
-          each = t.each;
-          spelled = flags.1 ∙ ap (λ (r : List ℕ). word f.0 ++ r) parts;
-        },
-      ))))
+      let whole : bytes ≡ t.text = t.parts ∙ ap (λ (r : List ℕ). t.text ++ r) last.1 ∙ append-nil t.text in
+      subst (λ (y : ℕ × List PlacedAce). SpellsWhole Spells y.0 y.1 bytes) last.0
+      (subst (λ (b : List ℕ). SpellsWhole Spells f.0 l.0 b) (sym whole) t.is))))
 
-  -- what was spelled is read again
-  pub whole_read : (bytes : List ℕ) (set : ℕ) (list : List PlacedAce) → SpellsWhole Spells set list bytes
-      → whole_in read bytes ≡ Ok (set, list)
+  -- what was spelled is read again before other bytes
+  pub whole_read_before : (text rest : List ℕ) (set : ℕ) (list : List PlacedAce) → SpellsWhole Spells set list text
+      → whole_in read (text ++ rest) ≡ nothing_after set (list, place (length text) rest)
   unfolding whole_in
-  whole_read bytes set list (spelled, is, h) =
+  whole_read_before text rest set list (spelled, is, h) =
       let n : ℕ = length spelled in
       let body : List ℕ = flat_map bytes_of spelled in
       let c = h.count in
       let w = h.weight in
-      bind-ok _ (flags_again bytes set (word n ++ body) h.flags h.spelled)
-      ∙ bind-ok _ (ap (λ (t : List ℕ). word_at (λ n. listed (count_of n)) (place 4 (word n ++ t)))
-      (sym (append-nil body))
-      ∙ word_again (λ n. listed (count_of n)) 4 n (body ++ []) n (omega (arith, c))
+      let parts : text ++ rest ≡ word set ++ (word n ++ (body ++ rest)) =
+      ap (λ (t : List ℕ). t ++ rest) h.spelled ∙ append_assoc (word set) (word n ++ body) rest
+      ∙ ap (λ (t : List ℕ). word set ++ t) (append_assoc (word n) body rest) in
+      let here : 8 + length body ≡ length text = omega (
+        arith,
+        ap length h.spelled,
+        length-append (word set) (word n ++ body),
+        length-append (word n) body,
+      ) in
+      bind-ok _ (flags_again (text ++ rest) set (word n ++ (body ++ rest)) h.flags parts)
+      ∙ bind-ok _ (word_again (λ n. listed (count_of n)) 4 n (body ++ rest) n (omega (arith, c))
       (listed_again _ n (count_again n c)))
-      ∙ bind-ok (nothing_after set) (aces_again spelled [] 8 [] h.each (omega (arith, w)))
-      ∙ ap (λ (l : List PlacedAce). Ok (set, l)) (sym is)
+      ∙ bind-ok (nothing_after set) (aces_again spelled [] 8 rest h.each (omega (arith, w)))
+      ∙ ap (λ (l : List PlacedAce). nothing_after set (l, place (8 + length body) rest)) (sym is)
+      ∙ ap (λ (k : ℕ). nothing_after set (list, place k rest)) here
+
+  -- what was spelled is read again
+  pub whole_read : (bytes : List ℕ) (set : ℕ) (list : List PlacedAce) → SpellsWhole Spells set list bytes
+      → whole_in read bytes ≡ Ok (set, list)
+  whole_read bytes set list is =
+      ap (whole_in read) (sym (append-nil bytes)) ∙ whole_read_before bytes [] set list is
 
   -- ---- what a call answers
 

@@ -20,13 +20,14 @@ use Rattle.acl_nfs4.specs.Who.{is_no_who_len, is_plain}
 use Rattle.acl_nfs4.specs.declared.xdr.fault.Reason.{Reason}
 use Rattle.acl_nfs4.specs.internal.Progress.{IsBytes}
 use Rattle.acl_nfs4.specs.internal.Reading.{Place, text_fault}
-use Rattle.acl_forms.specs.Acl41Ids.{id_who, listed, special_of}
+use Rattle.acl_forms.specs.Acl41Ids.{id_who, special_of}
 use Rattle.acl_forms.specs.Part.{is_unknown_deny}
-use Rattle.acl_forms.specs.PartWords.{Names, SpellsById, SpellsByName, bytes_at, special_identifier, unless_unknown, who_by_name, who_by_number}
+use Rattle.acl_forms.specs.PartWords.{Names, SpellsById, SpellsByName, special_identifier, unless_unknown, who_by_name, who_by_number}
 use Rattle.acl_forms.specs.PartWords.Names.{by_id, by_special}
-unfoldable use Rattle.acl_forms.specs.PartWords.{ace_by_name, ace_by_number}
-use Rattle.acl_forms.specs.Words.{word_at}
+use Rattle.acl_forms.specs.Words.{listed, word_at}
 use Rattle.acl_forms.specs.declared.fault.ReadReason.TheVariants as reason
+use Rattle.acl_forms.specs.internal.AnyAces.{bytes_at}
+unfoldable use Rattle.acl_forms.specs.internal.AnyAces.{ace_by_name, ace_by_number}
 use Rattle.acl_forms.proofs.AnyNames.{known_who}
 use Rattle.acl_forms.proofs.IdAces.{flags_accepted, flags_are, listed_again, listed_ok, mask_again, mask_is, special_accepted, special_is, five_regrouped}
 use Rattle.acl_forms.proofs.WordLemmas.{word_again, word_takes}
@@ -35,7 +36,7 @@ use Rattle.acl_forms.proofs.PartLists.{IsReader, TakesAce, bytes_again, bytes_ta
 -- ---- an ACE with a name
 
 -- a length that was read is one that a who may have
-who_len_is : (n m : ℕ) → who_len_of n ≡ Ok m → (n ≡ m) × (is_no_who_len m ≡ false)
+pub who_len_is : (n m : ℕ) → who_len_of n ≡ Ok m → (n ≡ m) × (is_no_who_len m ≡ false)
 who_len_is n m e = grind (arith, nat_tests)
 
 -- a length that a who may have is accepted
@@ -94,7 +95,7 @@ any_who_is name who some e =
     subst IsAnyWho taken.0 (record { long = some; utf8 = text.0; plain = text.1 })
 
 -- padding that was read is zero
-padding_is : (bytes : List ℕ) (x : Unit {0}) → listed (padding_of bytes) ≡ Ok x → bytes ≡ replicate (length bytes) 0
+pub padding_is : (bytes : List ℕ) (x : Unit {0}) → listed (padding_of bytes) ≡ Ok x → bytes ≡ replicate (length bytes) 0
 padding_is bytes x e =
     bytes_are_zeros bytes (by (list_all (λ b. eqb b 0) bytes) refl (listed_ok (padding_of bytes) x e))
   where
@@ -104,7 +105,7 @@ padding_is bytes x e =
     by false t e = absurd grind arith
 
 -- zero bytes are accepted as padding
-padding_again : (n : ℕ) → listed (padding_of (replicate n 0)) ≡ Ok tt
+pub padding_again : (n : ℕ) → listed (padding_of (replicate n 0)) ≡ Ok tt
 padding_again n = rw (zeros_again n) refl
 
 -- if each field of an ACE was read, the ACE was read

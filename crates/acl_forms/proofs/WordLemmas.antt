@@ -65,10 +65,17 @@ word_again means at n rest x lt e =
     let same : means (number (word n)) ≡ Ok x = ap means (from_be_bytes-to_be_bytes_4 n lt) ∙ e in
     rw long (ap (judged_word (place at (word n ++ rest))) same)
 
+-- what was read to this place was spelled
+pub record SpelledTo (Spelled : List ℕ → Type 0) (bytes : List ℕ) (end : Place) : Type 0 where
+  pub text : List ℕ
+  pub is : Spelled text
+  pub parts : bytes ≡ text ++ end.rest
+  pub here : end.at ≡ length text
+
 -- ---- the word of flags
 
 -- flags that were read are flags of the standard
-flags_are : (n m : ℕ) → acl_flags_of n ≡ Ok m → (n ≡ m) × IsAclFlags m
+pub flags_are : (n m : ℕ) → acl_flags_of n ≡ Ok m → (n ≡ m) × IsAclFlags m
 flags_are n m e = grind (arith, nat_tests)
 
 -- flags of the standard are accepted
@@ -76,7 +83,7 @@ flags_accepted : (n : ℕ) → IsAclFlags n → acl_flags_of n ≡ Ok n
 flags_accepted n is = rw (eq-eqb (bit_and n all_acl_flags) n is) refl
 
 -- a set of flags is a word
-flags_lt : (n : ℕ) → IsAclFlags n → n < 2 ^ 32
+pub flags_lt : (n : ℕ) → IsAclFlags n → n < 2 ^ 32
 flags_lt n is = let le : n ≤ all_acl_flags = rw (← is) (and_le_r n all_acl_flags) in omega arith
 
 -- flags that were read are flags, and the bytes are their word and the rest

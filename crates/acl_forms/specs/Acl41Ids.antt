@@ -2,7 +2,7 @@
 -- (source3/modules/nfs41acl.x of Samba 4.17.12), in the layout of RFC 4506. An ACE has five words: its type, its flags,
 -- whether its who is a special identifier, its mask, and the number of the special identifier or the id. That ids are
 -- names by their decimal digits is this library's own.
-use Rattle.std.specs.Prelude.{◌≡◌, ◌==◌, ◌&&◌, ℕ, suc, zero, ◌+◌, List, [], ◌∷◌, ◌++◌, length, nat_le, if◌then◌else◌, Option, Some, None, option_map, unwrap_or, IsSome, Result, Ok, Err}
+use Rattle.std.specs.Prelude.{◌≡◌, ◌==◌, ◌&&◌, ◌<◌, ℕ, List, [], ◌∷◌, ◌++◌, length, nat_le, if◌then◌else◌, Option, Some, None, option_map, unwrap_or, IsSome, Result, Ok, Err}
 use Rattle.std.specs.Fmt.{decimal}
 use Rattle.std.specs.List.{flat_map, AllByRecursion}
 use Rattle.std.specs.Option.{is_none}
@@ -10,19 +10,18 @@ use Rattle.std.specs.Str.{bytes_eq}
 use Rattle.std.specs.Str.Parse.{digits_value}
 use Rattle.acl_perm.specs.Kind.{kind_number}
 use Rattle.acl_perm.specs.Profile.{full}
-use Rattle.acl_perm.specs.internal.Steps.{◌>>=◌}
 use Rattle.acl_posix.specs.Id.{greatest_id}
 use Rattle.acl_nfs4.specs.Ace.{Ace}
-use Rattle.acl_nfs4.specs.Fields.{count_of, flags_of, kind_of, mask_of}
-use Rattle.acl_nfs4.specs.Spelling.{IsAccepted, weight, word}
+use Rattle.acl_nfs4.specs.Fields.{flags_of, kind_of, mask_of}
+use Rattle.acl_nfs4.specs.Layout.{Field, number_field}
+use Rattle.acl_nfs4.specs.Spelling.{IsAccepted, word, word_limit}
 use Rattle.acl_nfs4.specs.Who.{everyone_name, group_name, owner_name}
-use Rattle.acl_nfs4.specs.internal.Reading.{Place}
 use Rattle.acl_nfs4.specs.declared.xdr.fault.Reason.{Reason}
-use Rattle.acl_nfs4.specs.declared.xdr.fault.Reason.TheVariants.{SpecialWho, TrailingBytes}
+use Rattle.acl_nfs4.specs.declared.xdr.fault.Reason.TheVariants.{SpecialWho}
 use Rattle.acl_forms.specs.FirstFault.{first_fault}
+use Rattle.acl_forms.specs.AclFields.{IsAclFault, acl_fields}
 use Rattle.acl_forms.specs.AclFlags.{IsAclFlags}
-use Rattle.acl_forms.specs.ReadFaults.{read_fault_at}
-use Rattle.acl_forms.specs.Words.{acl_flags_of, start, word_at}
+use Rattle.acl_forms.specs.Words.{listed}
 use Rattle.acl_forms.specs.declared.fault.FormFault.{FormFault}
 use Rattle.acl_forms.specs.declared.fault.FormReason.{FormReason}
 use Rattle.acl_forms.specs.declared.fault.FormReason.TheVariants.{NoId}
@@ -70,11 +69,6 @@ pub record IsAcl41Ids (set : ℕ) (list : List Ace) (bytes : List ℕ) : Type 0 
 
 -- ---- the first fault of bytes
 
--- what the decoder of nfsace4<> says of a field
-abbrev pub listed : {A : Type 0} → Result A Reason → Result A ReadReason
-listed (Ok x) = Ok x
-listed (Err r) = Err (reason.List r)
-
 -- whether the who is a special identifier, which is 1 or 0, or why the word is refused
 abbrev pub special_of : ℕ → Result ℕ ReadReason
 special_of n = if nat_le n 1 then Ok n else Err reason.IflagBits
@@ -93,39 +87,32 @@ id_who n = if nat_le n greatest_id then Ok (decimal n) else Err reason.Id
 unfoldable pub id_who_of : ℕ → ℕ → Result (List ℕ) ReadReason
 id_who_of special n = if special == 1 then special_who n else id_who n
 
--- the ACE at a place, after ACEs of this weight, and the place after it
-unfoldable pub id_ace_at : ℕ → Place → Result (Ace × Place) ReadFault
-id_ace_at weight at = do
-  kind ← word_at (λ n. listed (kind_of n)) at
-  flags ← word_at (λ n. listed (flags_of full n)) kind.1
-  special ← word_at special_of flags.1
-  mask ← word_at (λ n. listed (mask_of full weight n)) special.1
-  who ← word_at (id_who_of special.0) mask.1
-  Ok (record { kind = kind.0; flags = flags.0; mask = mask.0; who = who.0 }, who.1)
+-- the five words of an ACE: its type, its flags, whether its who is a special identifier, its mask, and the number of
+-- its who
+pub record AceWords : Type 0 where
+  pub type_number : ℕ
+  pub flags : ℕ
+  pub special : ℕ
+  pub mask : ℕ
+  pub number : ℕ
+  pub fits : number < word_limit
 
--- the list with this many more ACEs from a place on, and the place after them
-unfoldable pub id_aces_from : ℕ → List Ace → Place → Result (List Ace × Place) ReadFault
-id_aces_from zero list at = Ok (list, at)
-id_aces_from (suc n) list at = do
-  first ← id_ace_at (weight list) at
-  id_aces_from n (list ++ first.0 ∷ []) first.1
+-- the fields of an ACE after ACEs of this weight, if its type and the number of its who have these meanings
+abbrev pub fields_of_words : {K : Type 0} → (ℕ → Result K Reason) → (ℕ → ℕ → ℕ → Result (List ℕ) ReadReason) → ℕ
+    → AceWords → List (Field ReadReason)
+fields_of_words type who weight a = number_field (λ n. listed (type n)) a.type_number
+    ∷ number_field (λ n. listed (flags_of full n)) a.flags ∷ number_field special_of a.special
+    ∷ number_field (λ n. listed (mask_of full weight n)) a.mask
+    ∷ number_field (who a.type_number a.special) a.number ∷ []
 
--- the flags and the list, if no byte is left
-abbrev pub nothing_after : {A : Type 0} → ℕ → A × Place → Result (ℕ × A) ReadFault
-nothing_after flags (list, at) = if length at.rest == 0 then Ok (flags, list)
-    else Err (read_fault_at at.at (reason.List TrailingBytes))
+-- the fields of flags and of a list
+abbrev pub acl41_ids_fields : ℕ → List AceWords → List (Field ReadReason)
+acl41_ids_fields flags list = acl_fields (fields_of_words kind_of (λ type_number. id_who_of)) (λ a. a.mask) flags list
 
--- the flags and the list that all of the bytes spell, or the first fault from the left
-unfoldable pub acl41_ids_in : List ℕ → Result (ℕ × List Ace) ReadFault
-acl41_ids_in bytes = do
-  flags ← word_at acl_flags_of (start bytes)
-  count ← word_at (λ n. listed (count_of n)) flags.1
-  list ← id_aces_from count.0 [] count.1
-  nothing_after flags.0 list
-
--- the bytes spell no flags and list, and this is the first fault from the left
+-- the bytes spell no flags and list, and this is their first fault
 abbrev pub IsAcl41IdsFault : List ℕ → ReadFault → Type 0
-IsAcl41IdsFault bytes fault = acl41_ids_in bytes ≡ Err fault
+IsAcl41IdsFault bytes fault = IsAclFault acl41_ids_fields
+    (λ text. (flags : ℕ) × (list : List Ace) × IsAcl41Ids flags list text) bytes fault
 
 -- ---- which lists the form holds
 

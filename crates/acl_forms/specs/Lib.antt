@@ -1,6 +1,7 @@
 pub mod AclFlags
 pub mod ReadFaults
 pub mod Words
+pub mod AclFields
 pub mod FormWrites
 pub mod Acl41
 pub mod Acl41Ids

@@ -1,10 +1,10 @@
 -- What of a value of each form access can read (this library's own, by cases over the definitions of the forms).
-use Rattle.std.specs.Prelude.{◌≡◌, ℕ, List, Err}
+use Rattle.std.specs.Prelude.{ℕ, List}
 use Rattle.acl_nfs4.specs.Ace.{Ace}
 use Rattle.acl_forms.specs.Forms.{IsTextWithoutFlags}
 use Rattle.acl_forms.specs.Part.{SpellsPart}
 use Rattle.acl_forms.specs.PartTexts.{nfs_any_rules, tools_any_rules}
-use Rattle.acl_forms.specs.PartWords.{SpellsById, SpellsByName, SpellsWhole, ace_by_name, ace_by_number, whole_in}
+use Rattle.acl_forms.specs.PartWords.{IsFaultByName, IsFaultByNumber, SpellsById, SpellsByName, SpellsWhole}
 use Rattle.acl_forms.specs.Texts.{IsFaultByRules, SpellsByRules}
 use Rattle.acl_forms.specs.declared.fault.ReadFault.{ReadFault}
 use Rattle.acl_forms.specs.declared.form.Form.{Form}
@@ -26,5 +26,5 @@ SpellsPartOf NfsAcl41Ids set list out bytes =
 abbrev pub IsPartFaultAt : Form → List ℕ → ReadFault → Type 0
 IsPartFaultAt (NfsTools object) bytes fault = IsFaultByRules (tools_any_rules object) bytes fault
 IsPartFaultAt (NfsText source style) bytes fault = IsFaultByRules (nfs_any_rules source) bytes fault
-IsPartFaultAt NfsAcl41 bytes fault = whole_in ace_by_name bytes ≡ Err fault
-IsPartFaultAt NfsAcl41Ids bytes fault = whole_in ace_by_number bytes ≡ Err fault
+IsPartFaultAt NfsAcl41 bytes fault = IsFaultByName bytes fault
+IsPartFaultAt NfsAcl41Ids bytes fault = IsFaultByNumber bytes fault

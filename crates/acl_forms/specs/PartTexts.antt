@@ -9,7 +9,6 @@ use Rattle.acl_nfs4.specs.Ace.{Ace}
 use Rattle.acl_nfs4.specs.Fields.{who_len_of}
 use Rattle.acl_nfs4.specs.Limits.{most_weight}
 use Rattle.acl_nfs4.specs.declared.xdr.fault.Reason.TheVariants as list
-use Rattle.acl_forms.specs.Acl41Ids.{listed}
 use Rattle.acl_forms.specs.Letters.{flag_letters, nfs_flag_letters, nfs_right_letters, no_letter, right_letters, set_of_letters}
 use Rattle.acl_forms.specs.NfsRules.{nfs_rules}
 use Rattle.acl_forms.specs.NfsText.{NfsFields, flags_by_tag, nfs_fields_read, nfs_type, tag_special, who_by_tag}
@@ -19,6 +18,7 @@ use Rattle.acl_forms.specs.ReadFaults.{read_fault_at}
 use Rattle.acl_forms.specs.Texts.{TextRules}
 use Rattle.acl_forms.specs.ToolsRules.{tools_rules}
 use Rattle.acl_forms.specs.ToolsText.{Fields, fields_read, type_read, with_group_flag}
+use Rattle.acl_forms.specs.Words.{listed}
 use Rattle.acl_forms.specs.declared.fault.ReadFault.{ReadFault}
 use Rattle.acl_forms.specs.declared.fault.ReadReason.{ReadReason}
 use Rattle.acl_forms.specs.declared.fault.ReadReason.TheVariants as reasons

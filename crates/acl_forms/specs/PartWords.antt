@@ -1,7 +1,7 @@
 -- The bytes of lists of ACEs of any type in nfsacl41 and nfsacl41i: the layouts of Acl41 and Acl41Ids with each type of
 -- RFC 8881, section 6.2.1.1, and each special identifier, but for a DENY of one that nobody knows. How a special number
 -- without a meaning is named is this library's own.
-use Rattle.std.specs.Prelude.{◌≡◌, ◌==◌, ℕ, zero, suc, ◌+◌, ◌<◌, ◌≤◌, ◌^◌, List, [], ◌∷◌, ◌++◌, codes, count_ones, false, length, nat_lt, sum_by, take, drop, if◌then◌else◌, Result, Ok, Err}
+use Rattle.std.specs.Prelude.{◌≡◌, ◌==◌, ℕ, ◌+◌, ◌<◌, ◌≤◌, ◌^◌, List, [], ◌∷◌, ◌++◌, codes, count_ones, false, length, replicate, sum_by, if◌then◌else◌, Result, Ok, Err}
 use Rattle.std.specs.Fmt.{decimal}
 use Rattle.std.specs.List.{AllByRecursion, flat_map}
 use Rattle.acl_perm.specs.Bits.{all_flags, all_rights}
@@ -9,19 +9,19 @@ use Rattle.acl_perm.specs.Profile.{full}
 use Rattle.acl_perm.specs.internal.Steps.{◌>>=◌}
 use Rattle.acl_posix.specs.Id.{IsId}
 use Rattle.acl_nfs4.specs.AccessPart.{AnyAce, IsAnyAce, any_piece}
-use Rattle.acl_nfs4.specs.Fields.{count_of, flags_of, mask_of, padding_of, who_len_of}
+use Rattle.acl_nfs4.specs.Fields.{flags_of, mask_of, padding_of, who_len_of}
+use Rattle.acl_nfs4.specs.Layout.{Field, bytes_field, number_field}
 use Rattle.acl_nfs4.specs.Limits.{most_aces, most_weight}
 use Rattle.acl_nfs4.specs.PartFault.{any_who_of, type_of}
 use Rattle.acl_nfs4.specs.Spelling.{pad_len, word}
 use Rattle.acl_nfs4.specs.Who.{everyone_name, group_name, owner_name}
 use Rattle.acl_nfs4.specs.Within.{IsWithin}
-use Rattle.acl_nfs4.specs.internal.Reading.{Place}
-use Rattle.acl_nfs4.specs.declared.xdr.fault.Reason.TheVariants.{SpecialWho, Truncated}
+use Rattle.acl_nfs4.specs.declared.xdr.fault.Reason.TheVariants.{SpecialWho}
+use Rattle.acl_forms.specs.AclFields.{IsAclFault, acl_fields}
 use Rattle.acl_forms.specs.AclFlags.{IsAclFlags}
-use Rattle.acl_forms.specs.Acl41Ids.{id_who, listed, nothing_after, special_of}
-use Rattle.acl_forms.specs.Part.{PlacedAce, any_weight, is_unknown_deny}
-use Rattle.acl_forms.specs.ReadFaults.{read_fault_at}
-use Rattle.acl_forms.specs.Words.{acl_flags_of, head_size, start, word_at}
+use Rattle.acl_forms.specs.Acl41Ids.{fields_of_words, id_who}
+use Rattle.acl_forms.specs.Part.{PlacedAce, is_unknown_deny}
+use Rattle.acl_forms.specs.Words.{head_size, listed}
 use Rattle.acl_forms.specs.declared.fault.ReadFault.{ReadFault}
 use Rattle.acl_forms.specs.declared.fault.ReadReason.{ReadReason}
 use Rattle.acl_forms.specs.declared.fault.ReadReason.TheVariants as reason
@@ -88,16 +88,6 @@ SpellsWhole Spells set list bytes =
 
 -- ---- the first fault of bytes
 
--- what this many bytes mean and the place after them, or why they are refused
-abbrev pub judged_bytes : {A : Type 0} → ℕ → Place → Result A ReadReason → Result (A × Place) ReadFault
-judged_bytes n p (Ok x) = Ok (x, record { at = p.at + n; rest = drop n p.rest })
-judged_bytes n p (Err r) = Err (read_fault_at p.at r)
-
--- this many bytes at a place: cut short, or what they mean
-abbrev pub bytes_at : {A : Type 0} → ℕ → (List ℕ → Result A ReadReason) → Place → Result (A × Place) ReadFault
-bytes_at n means p = if nat_lt (length p.rest) n then Err (read_fault_at p.at (reason.List Truncated))
-    else judged_bytes n p (means (take n p.rest))
-
 -- the who of an ACE of this type, unless nobody knows whom a DENY names
 abbrev pub unless_unknown : ℕ → List ℕ → Result (List ℕ) ReadReason
 unless_unknown type_number who =
@@ -112,42 +102,27 @@ abbrev pub who_by_number : ℕ → ℕ → ℕ → Result (List ℕ) ReadReason
 who_by_number type_number special n =
     if special == 1 then unless_unknown type_number (special_identifier n) else id_who n
 
--- a call that reads an ACE at a place, after ACEs of this weight, and the place after it
-abbrev pub AceReader : Type 0
-AceReader = ℕ → Place → Result (AnyAce × Place) ReadFault
+-- the fields of an ACE in nfsacl41 after ACEs of this weight: its type, its flags, its mask, the length of its who, its
+-- who and its padding
+abbrev pub fields_by_name : ℕ → AnyAce → List (Field ReadReason)
+fields_by_name weight a = number_field (λ n. listed (type_of n)) a.type_number
+    ∷ number_field (λ n. listed (flags_of full n)) a.flags
+    ∷ number_field (λ n. listed (mask_of full weight n)) a.mask
+    ∷ number_field (λ n. listed (who_len_of n)) (length a.who)
+    ∷ bytes_field (who_by_name a.type_number) a.who
+    ∷ bytes_field (λ b. listed (padding_of b)) (replicate (pad_len (length a.who)) 0) ∷ []
 
--- the ACE at a place in nfsacl41
-unfoldable pub ace_by_name : AceReader
-ace_by_name weight at = do
-  number ← word_at (λ n. listed (type_of n)) at
-  flags ← word_at (λ n. listed (flags_of full n)) number.1
-  mask ← word_at (λ n. listed (mask_of full weight n)) flags.1
-  len ← word_at (λ n. listed (who_len_of n)) mask.1
-  who ← bytes_at len.0 (who_by_name number.0) len.1
-  padding ← bytes_at (pad_len len.0) (λ b. listed (padding_of b)) who.1
-  Ok (record { type_number = number.0; flags = flags.0; mask = mask.0; who = who.0 }, padding.1)
+-- the bytes spell no flags and ACEs, whose fields are these, and this is their first fault
+abbrev pub IsFaultOfWhole : {A : Type 0} → (ℕ → List A → List (Field ReadReason)) → (AnyAce → List ℕ → Type 0) → List ℕ
+    → ReadFault → Type 0
+IsFaultOfWhole fields Spells bytes fault =
+    IsAclFault fields (λ text. (set : ℕ) × (list : List PlacedAce) × SpellsWhole Spells set list text) bytes fault
 
--- the ACE at a place in nfsacl41i
-unfoldable pub ace_by_number : AceReader
-ace_by_number weight at = do
-  number ← word_at (λ n. listed (type_of n)) at
-  flags ← word_at (λ n. listed (flags_of full n)) number.1
-  special ← word_at special_of flags.1
-  mask ← word_at (λ n. listed (mask_of full weight n)) special.1
-  who ← word_at (who_by_number number.0 special.0) mask.1
-  Ok (record { type_number = number.0; flags = flags.0; mask = mask.0; who = who.0 }, who.1)
+-- the bytes spell no flags and ACEs in nfsacl41, and this is their first fault
+abbrev pub IsFaultByName : List ℕ → ReadFault → Type 0
+IsFaultByName bytes fault = IsFaultOfWhole (acl_fields fields_by_name (λ a. a.mask)) SpellsByName bytes fault
 
--- the list with this many more ACEs from a place on, and the place after them
-unfoldable pub aces_from : AceReader → ℕ → List PlacedAce → Place → Result (List PlacedAce × Place) ReadFault
-aces_from read zero list at = Ok (list, at)
-aces_from read (suc n) list at = do
-  first ← read (any_weight list) at
-  aces_from read n (list ++ record { ace = first.0; offset = at.at } ∷ []) first.1
-
--- the flags and the ACEs that all of the bytes spell, or the first fault from the left
-unfoldable pub whole_in : AceReader → List ℕ → Result (ℕ × List PlacedAce) ReadFault
-whole_in read bytes = do
-  flags ← word_at acl_flags_of (start bytes)
-  count ← word_at (λ n. listed (count_of n)) flags.1
-  list ← aces_from read count.0 [] count.1
-  nothing_after flags.0 list
+-- the bytes spell no flags and ACEs in nfsacl41i, and this is their first fault
+abbrev pub IsFaultByNumber : List ℕ → ReadFault → Type 0
+IsFaultByNumber bytes fault =
+    IsFaultOfWhole (acl_fields (fields_of_words type_of who_by_number) (λ a. a.mask)) SpellsById bytes fault

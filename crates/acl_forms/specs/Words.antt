@@ -6,6 +6,7 @@ use Rattle.acl_nfs4.specs.Fields.{number}
 use Rattle.acl_nfs4.specs.Spelling.{word_size}
 use Rattle.acl_nfs4.specs.Within.{is_within}
 use Rattle.acl_nfs4.specs.internal.Reading.{Place}
+use Rattle.acl_nfs4.specs.declared.xdr.fault.Reason.{Reason}
 use Rattle.acl_nfs4.specs.declared.xdr.fault.Reason.TheVariants.{Truncated}
 use Rattle.acl_forms.specs.AclFlags.{all_acl_flags}
 use Rattle.acl_forms.specs.ReadFaults.{no_memory_left, read_fault_at}
@@ -31,6 +32,11 @@ judged_word p (Err r) = Err (read_fault_at p.at r)
 abbrev pub word_at : {A : Type 0} → (ℕ → Result A ReadReason) → Place → Result (A × Place) ReadFault
 word_at means p = if nat_lt (length p.rest) word_size then Err (read_fault_at p.at (reason.List Truncated))
     else judged_word p (means (number (take word_size p.rest)))
+
+-- what the decoder of nfsace4<> says of a field
+abbrev pub listed : {A : Type 0} → Result A Reason → Result A ReadReason
+listed (Ok x) = Ok x
+listed (Err r) = Err (reason.List r)
 
 -- the flags of the list that a word says, or why they are refused
 abbrev pub acl_flags_of : ℕ → Result ℕ ReadReason

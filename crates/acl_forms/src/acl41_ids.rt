@@ -7,11 +7,11 @@ ghost use Rattle.acl_nfs4.specs.Limits.{most_aces, most_weight};
 ghost use Rattle.acl_nfs4.specs.Spelling.{IsAccepted, weight};
 ghost use Rattle.acl_nfs4.specs.internal.Reading.{Gives};
 ghost use Rattle.acl_nfs4.specs.internal.Cursor.{place};
-ghost use Rattle.acl_forms.specs.Acl41Ids.{IsAcl41Ids, IsAcl41IdsFault, acl41_ids_in, id_ace_at, id_aces_from, id_who, id_who_of, listed, special_of, special_who};
+ghost use Rattle.acl_forms.specs.Acl41Ids.{IsAcl41Ids, IsAcl41IdsFault, id_who, id_who_of, special_of, special_who};
 ghost use Rattle.acl_forms.specs.ReadFaults.{no_memory_left};
-ghost use Rattle.acl_forms.specs.Words.{IfForm, ReadsForm, RefusesForm, word_at};
+ghost use Rattle.acl_forms.specs.Words.{IfForm, ReadsForm, RefusesForm, listed, word_at};
 ghost use Rattle.acl_forms.specs.declared.fault.ReadFault.{ReadFault};
-ghost use Rattle.acl_forms.specs.internal.IdAces.{ReadAs, ace_by_id, flags_and_list, whom_name};
+ghost use Rattle.acl_forms.specs.internal.IdAces.{ReadAs, ace_by_id, acl41_ids_in, flags_and_list, id_ace_at, id_aces_from, whom_name};
 
 use crate::acl_flags::AclFlags;
 use crate::fault::{ReadFault, ReadReason};
@@ -70,7 +70,7 @@ pub fn read_acl41_ids(alloc: Global, bytes: &[u8]) -> Result<(AclFlags, Acl), Re
 }
 
 // Returns what the bytes spell, or their first fault.
-#[tactic(auto, unfolding(crate::specs::Acl41Ids::acl41_ids_in))]
+#[tactic(auto, unfolding(crate::specs::internal::IdAces::acl41_ids_in))]
 fn read_whole(alloc: Global, bytes: &[u8]) -> Result<(AclFlags, Acl), ReadFault>
     ensures { ReadAs flags_and_list result (acl41_ids_in bytes.now) }
 {
@@ -139,7 +139,7 @@ pub(crate) fn name_of(whom: IdWho, digits: &mut Buffer) -> &[u8]
 
 // ---- the words of an ACE
 
-#[tactic(auto, unfolding(crate::specs::Acl41Ids::id_ace_at))]
+#[tactic(auto, unfolding(crate::specs::internal::IdAces::id_ace_at))]
 fn next_ace(cursor: &mut Cursor<'_>, weight: u32) -> Result<IdAce, ReadFault>
     requires { weight ≤ most_weight }
     ensures exact { Gives (λ x. (ace_by_id x, place cursor.new)) result

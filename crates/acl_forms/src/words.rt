@@ -2,8 +2,7 @@
 ghost use Rattle.std.specs.Prelude.{◌≡◌, Ok};
 ghost use Rattle.acl_nfs4.specs.internal.Reading.{Gives};
 ghost use Rattle.acl_nfs4.specs.internal.Cursor.{place};
-ghost use Rattle.acl_forms.specs.Acl41Ids.{listed};
-ghost use Rattle.acl_forms.specs.Words.{acl_flags_of, start, word_at};
+ghost use Rattle.acl_forms.specs.Words.{acl_flags_of, listed, start, word_at};
 ghost use Rattle.acl_forms.specs.internal.PlacedWords.{PlacedWord};
 
 use crate::acl_flags::AclFlags;

@@ -7,10 +7,9 @@ ghost use Rattle.acl_nfs4.specs.Spelling.{pad_len};
 ghost use Rattle.acl_nfs4.specs.Who.{is_no_who_len};
 ghost use Rattle.acl_nfs4.specs.internal.Reading.{Gives};
 ghost use Rattle.acl_nfs4.specs.internal.Cursor.{place};
-ghost use Rattle.acl_forms.specs.Acl41Ids.{listed};
-ghost use Rattle.acl_forms.specs.PartWords.{ace_by_name, ace_by_number, aces_from, bytes_at, who_by_name, who_by_number, whole_in};
-ghost use Rattle.acl_forms.specs.Words.{word_at};
-ghost use Rattle.acl_forms.specs.internal.AnyAces.{GivesAnyPart, HasAnyName, IsPartReadAs, any_ace_of, any_name, reader_of};
+ghost use Rattle.acl_forms.specs.PartWords.{who_by_name, who_by_number};
+ghost use Rattle.acl_forms.specs.Words.{listed, word_at};
+ghost use Rattle.acl_forms.specs.internal.AnyAces.{GivesAnyPart, HasAnyName, IsPartReadAs, ace_by_name, ace_by_number, aces_from, any_ace_of, any_name, bytes_at, reader_of, whole_in};
 
 use crate::acl_flags::AclFlags;
 use crate::acl41_ids::{account_of, count, flags, mask, special, special_whom};
@@ -32,7 +31,7 @@ pub(crate) enum Layout {
 }
 
 /// Returns the part of what all of the bytes spell, or their first fault.
-#[tactic(auto, unfolding(crate::specs::PartWords::whole_in))]
+#[tactic(auto, unfolding(crate::specs::internal::AnyAces::whole_in))]
 pub(crate) fn read_words(
     alloc: Global,
     bytes: &[u8],
@@ -100,7 +99,7 @@ fn next_ace<'a>(
     }
 }
 
-#[tactic(auto, unfolding(crate::specs::PartWords::ace_by_name))]
+#[tactic(auto, unfolding(crate::specs::internal::AnyAces::ace_by_name))]
 fn ace_by_name<'a>(cursor: &mut Cursor<'a>, weight: u32) -> Result<AnyAceRef<'a>, ReadFault>
     requires { weight ≤ most_weight }
     ensures exact { Gives (λ x. (any_ace_of x, place cursor.new)) result
@@ -122,7 +121,7 @@ fn ace_by_name<'a>(cursor: &mut Cursor<'a>, weight: u32) -> Result<AnyAceRef<'a>
     })
 }
 
-#[tactic(auto, unfolding(crate::specs::PartWords::ace_by_number))]
+#[tactic(auto, unfolding(crate::specs::internal::AnyAces::ace_by_number))]
 fn ace_by_number<'a>(cursor: &mut Cursor<'a>, weight: u32) -> Result<AnyAceRef<'a>, ReadFault>
     requires { weight ≤ most_weight }
     ensures exact { Gives (λ x. (any_ace_of x, place cursor.new)) result

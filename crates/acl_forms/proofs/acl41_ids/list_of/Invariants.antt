@@ -3,7 +3,7 @@ use Rattle.acl_perm.specs.Profile.{full}
 use Rattle.acl_nfs4.specs.Limits.{most_aces}
 use Rattle.acl_nfs4.specs.Spelling.{IsAccepted}
 use Rattle.acl_nfs4.specs.internal.Cursor.{place}
-use Rattle.acl_forms.specs.Acl41Ids.{id_aces_from}
+use Rattle.acl_forms.specs.internal.IdAces.{id_aces_from}
 use Rattle.acl_forms.proofs.acl41_ids.list_of.Given as goal
 
 -- the list so far, with the ACEs that are left, gives what all ACEs give

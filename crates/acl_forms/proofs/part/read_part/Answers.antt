@@ -4,6 +4,7 @@ use Rattle.acl_forms.specs.PartTexts.{nfs_any_entry, nfs_any_rules, tools_any_en
 use Rattle.acl_forms.specs.ToolsRules.{tools_rules}
 use Rattle.acl_forms.proofs.AnyEntries.{nfs_follow, tools_follow}
 use Rattle.acl_forms.proofs.AnyTexts.{text_whole, texts_fault, texts_found, texts_only, texts_refused}
+use Rattle.acl_forms.proofs.PartFaults.{any_fault, any_refused, name_reads, number_reads}
 use Rattle.acl_forms.proofs.PartLists.{words_found, words_only}
 use Rattle.acl_forms.proofs.PartWords.{reader_by_name, reader_by_number}
 use Rattle.acl_forms.proofs.WholeLists.{named_whole, numbered_whole}
@@ -18,6 +19,16 @@ pub returns-in-NfsAcl41-clause-only : goal.returns-in-NfsAcl41-clause-only
 returns-in-NfsAcl41-clause-only c =
     rw c.in-NfsAcl41.is (words_only reader_by_name c.args.bytes.now c.read_words.result c.read_words.ensures)
 
+pub returns-in-NfsAcl41-clause-fault : goal.returns-in-NfsAcl41-clause-fault
+returns-in-NfsAcl41-clause-fault c =
+    rw c.in-NfsAcl41.is (any_fault reader_by_name name_reads c.args.bytes.now (λ i. omega (arith, c.type_inv.bytes i))
+    c.read_words.result c.read_words.ensures)
+
+pub returns-in-NfsAcl41-clause-refused : goal.returns-in-NfsAcl41-clause-refused
+returns-in-NfsAcl41-clause-refused c =
+    rw c.in-NfsAcl41.is (any_refused reader_by_name name_reads c.args.bytes.now c.read_words.result
+    c.read_words.ensures)
+
 pub returns-in-NfsAcl41-clause-whole : goal.returns-in-NfsAcl41-clause-whole
 returns-in-NfsAcl41-clause-whole c = rw c.in-NfsAcl41.is (λ set list h.
     words_only reader_by_name c.args.bytes.now c.read_words.result c.read_words.ensures set list []
@@ -31,6 +42,16 @@ returns-in-NfsAcl41Ids-clause-found c =
 pub returns-in-NfsAcl41Ids-clause-only : goal.returns-in-NfsAcl41Ids-clause-only
 returns-in-NfsAcl41Ids-clause-only c =
     rw c.in-NfsAcl41Ids.is (words_only reader_by_number c.args.bytes.now c.read_words-in-NfsAcl41Ids.result
+    c.read_words-in-NfsAcl41Ids.ensures)
+
+pub returns-in-NfsAcl41Ids-clause-fault : goal.returns-in-NfsAcl41Ids-clause-fault
+returns-in-NfsAcl41Ids-clause-fault c =
+    rw c.in-NfsAcl41Ids.is (any_fault reader_by_number number_reads c.args.bytes.now
+    (λ i. omega (arith, c.type_inv.bytes i)) c.read_words-in-NfsAcl41Ids.result c.read_words-in-NfsAcl41Ids.ensures)
+
+pub returns-in-NfsAcl41Ids-clause-refused : goal.returns-in-NfsAcl41Ids-clause-refused
+returns-in-NfsAcl41Ids-clause-refused c =
+    rw c.in-NfsAcl41Ids.is (any_refused reader_by_number number_reads c.args.bytes.now c.read_words-in-NfsAcl41Ids.result
     c.read_words-in-NfsAcl41Ids.ensures)
 
 pub returns-in-NfsAcl41Ids-clause-whole : goal.returns-in-NfsAcl41Ids-clause-whole
