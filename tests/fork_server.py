@@ -1,24 +1,34 @@
 """A fork server for tests/mutants: a process that runs scripts in Python, each in a fork of itself.
 
-A fork has the modules of Python's library that the scripts use, so that a script starts in a fraction of the time. It
-has no module of the product and no script: it reads these from their files. The process reads requests, each a line
-of JSON: a script, its words, and the file that gets what the script prints. For each it writes the process id of the
-fork, and then, when the script has ended, its exit status.
+A fork has modules already, so that a script starts in a fraction of the time: those of Python's library that the
+scripts use, and those of the product, as they were when the process began. It has no script, and no module of tests/.
+If a file has changed since, the fork forgets the module of that file and those that import it, so that the script reads
+them anew. If the file is no module, it forgets all modules of the product.
+
+The process reads requests, each a line of JSON: a script, its words, the file that has changed or an empty text, the
+seconds of the processor that each process of the script may take, and the file that gets what the script prints. For
+each it writes the process id of the fork, and then, when the script has ended, its exit status.
 """
+import builtins
+import contextlib
 import functools
 import gc
 import importlib
+import importlib.util
 import json
 import os
 import pathlib
 import re
+import resource
 import sys
 import types
+from collections import defaultdict
+from unittest import mock
 
 IMPORT = re.compile(r"(?m)^(?:import|from) ([\w.]+)")
 
 
-def load(directories):
+def load_library(directories):
     """Imports the modules of Python's library that the files of these directories import at their top."""
     names = {name for directory in directories for path in directory.rglob("*")
              if path.is_file() and (path.suffix == ".py" or path.read_bytes()[:22] == b"#!/usr/bin/env python3")
@@ -26,7 +36,46 @@ def load(directories):
     for name in sorted(names):
         if name.partition(".")[0] in sys.stdlib_module_names:
             importlib.import_module(name)
-    gc.freeze()
+
+
+class Product:
+    """The modules of a directory that can be imported, with the names that each of them imports when it starts."""
+
+    def __init__(self, directory):
+        self.directory, self.uses = directory, defaultdict(set)
+        import_ = builtins.__import__
+
+        def noted(name, globals=None, locals=None, fromlist=(), level=0):
+            if globals and "__name__" in globals:
+                whole = importlib.util.resolve_name("." * level + name, globals["__package__"])
+                self.uses[globals["__name__"]].update((whole, *(f"{whole}.{one}" for one in fromlist or ())))
+            return import_(name, globals, locals, fromlist, level)
+        paths = [path.relative_to(directory).with_suffix("") for path in sorted(directory.rglob("*.py"))]
+        with mock.patch("sys.path", [str(directory), *sys.path]), mock.patch("builtins.__import__", noted):
+            for path in paths:
+                if path.name != "__main__":
+                    with contextlib.suppress(Exception):
+                        importlib.import_module(".".join(path.parts).removesuffix(".__init__"))
+        self.files = {module.__file__: name for name, module in sys.modules.items()
+                      if (getattr(module, "__file__", None) or "").startswith(f"{directory}/")}
+
+    def forget(self, file):
+        """Forgets what has to do with a file that has changed."""
+        gone = {self.files[file]} if file in self.files else {*self.files.values()}
+        more = gone
+        while more:
+            more = {name for name in {*self.files.values()} - gone if self.names_of(name) & gone}
+            gone |= more
+        for name in gone:
+            above, _, last = name.rpartition(".")
+            if above in sys.modules:
+                vars(sys.modules[above]).pop(last, None)
+            del sys.modules[name]
+
+    def names_of(self, name):
+        """Returns what a module imports: the packages that it is in, and what it names."""
+        parts = name.split(".")
+        return self.uses[name] | {".".join(parts[:number]) for number in range(1, len(parts))}
 
 
 @functools.lru_cache
@@ -34,11 +83,12 @@ def compiled(script):
     return compile(pathlib.Path(script).read_bytes(), script, "exec")
 
 
-def become(script, words, output):
+def become(script, words, output, longest):
     """Makes this process, a fork, one that runs the script by itself, as an interpreter would."""
     os.setsid()
     # If a bug takes all memory, the system ends this process first.
     pathlib.Path("/proc/self/oom_score_adj").write_text("1000", encoding="ascii")
+    resource.setrlimit(resource.RLIMIT_CPU, (longest, longest))
     for place, flags, numbers in ((os.devnull, os.O_RDONLY, (0,)), (output, os.O_WRONLY | os.O_APPEND, (1, 2))):
         handle = os.open(place, flags)
         for number in numbers:
@@ -51,21 +101,26 @@ def become(script, words, output):
     exec(compiled(script), module.__dict__)
 
 
-def serve():
-    """Answers requests to the end of the input. It returns in a fork only, with the request."""
+def serve(product):
+    """Answers requests to the end of the input. It returns in a fork only, with what the fork has to become."""
     for line in sys.stdin:
-        script, words, output = json.loads(line)
+        script, words, changed, longest, output = json.loads(line)
         compiled(script)
         fork = os.fork()
         if fork == 0:
-            return script, words, output
+            if changed:
+                product.forget(changed)
+            return script, words, output, longest
         os.write(1, b"%d\n" % fork)
         os.write(1, b"%d\n" % os.waitstatus_to_exitcode(os.waitpid(fork, 0)[1]))
     return None
 
 
 if __name__ == "__main__":
-    load([pathlib.Path(directory) for directory in sys.argv[1:]])
-    request = serve()
+    tests, modules = (pathlib.Path(directory) for directory in sys.argv[1:])
+    load_library((tests, modules))
+    served = Product(modules)
+    gc.freeze()
+    request = serve(served)
     if request:
         become(*request)

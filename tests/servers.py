@@ -1,6 +1,9 @@
 """A server of PostgreSQL for tests/postgres, tests/tree_load and bench/database, in a folder of its own and as a user
 without privileges. It also has what the two scripts of tests/ share: databases for tests, and sessions of pages.
 """
+import contextlib
+import glob
+import hashlib
 import os
 import pwd
 import re
@@ -15,6 +18,8 @@ import unittest
 from harness import LIBRARY, ROOT, run, say_skipped
 
 MADE = os.path.dirname(os.path.abspath(LIBRARY))
+KEPT = os.environ.get("ACLCK_KEPT")
+"""Where tests/mutants, which starts many servers, keeps what they begin with."""
 
 
 class Missing(Exception):
@@ -56,23 +61,26 @@ class Server:
     def output(*words):
         return subprocess.run(words, check=True, stdout=subprocess.PIPE, text=True).stdout.strip()
 
-    def build(self):
-        """Builds the extension, and installs it below the folder."""
+    def build(self, destination):
+        """Builds the extension, and installs it below a directory."""
         built = os.path.join(self.folder, "built")
         os.mkdir(built)
-        for target in (["all"], ["install", f"DESTDIR={self.folder}/destination"]):
+        for target in (["all"], ["install", f"DESTDIR={destination}"]):
             done = subprocess.run(["make", "-s", "-C", built, "-f", os.path.join(ROOT, "sql/postgres/Makefile"),
                                    f"LIBACLCK={MADE}/libaclck.a", *target], stdout=subprocess.PIPE,
                                   stderr=subprocess.STDOUT, text=True, env=self.environment)
             if done.returncode or "warning:" in done.stdout:
                 raise RuntimeError(f"the extension does not build: {done.stdout}")
 
-    def start(self):
-        """Builds the extension, and starts the server."""
-        self.build()
-        data = os.path.join(self.folder, "data")
+    def make_data(self, data):
         subprocess.run([f"{self.programs}/initdb", "-D", data, "-U", "tester", "-A", "trust", "-E", "UTF8", "--locale",
                         "C.UTF-8", "--no-sync"], check=True, stdout=subprocess.PIPE, cwd=self.folder, **self.user)
+
+    def start(self):
+        """Builds the extension, and starts the server."""
+        data = os.path.join(self.folder, "data")
+        put(os.path.join(self.folder, "destination"), sum_of_sources(), self.build)
+        put(data, "data", self.make_data)
         settings = {"listen_addresses": "", "unix_socket_directories": self.folder, "fsync": "off",
                     "extension_destdir": f"{self.folder}/destination", "max_parallel_workers_per_gather": "0",
                     "shared_buffers": "16MB", "log_min_messages": "panic", "autovacuum": "off", **self.settings}
@@ -107,6 +115,32 @@ class Server:
         if re.search(r"(?m)^(?:ERROR|FATAL|WARNING|psql: error): ", out):
             raise AssertionError(out)
         return out.splitlines()
+
+
+def sum_of_sources():
+    """Returns a sum of the files that the extension is built of."""
+    found, paths = hashlib.sha256(), [f"{MADE}/libaclck.a"]
+    for place in ("sql/postgres/*", "sql/common/*", "include/*"):
+        paths += sorted(glob.glob(os.path.join(ROOT, place)))
+    for path in paths:
+        if os.path.isfile(path):
+            with open(path, "rb") as file:
+                found.update(hashlib.sha256(file.read()).digest())
+    return found.hexdigest()
+
+
+def put(place, name, make):
+    """Makes a directory by a call, or copies the one that an earlier server kept under this name."""
+    kept = os.path.join(KEPT or "", name)
+    if KEPT and os.path.isdir(kept):
+        subprocess.run(["cp", "-a", kept, place], check=True)
+        return
+    make(place)
+    if KEPT:
+        mine = f"{kept}.{os.getpid()}"
+        subprocess.run(["cp", "-a", place, mine], check=True)
+        with contextlib.suppress(OSError):  # another server has kept its own
+            os.rename(mine, kept)
 
 
 class OnServer(unittest.TestCase):
