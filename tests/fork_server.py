@@ -3,7 +3,8 @@
 A fork has modules already, so that a script starts in a fraction of the time: those of Python's library that the
 scripts use, and those of the product, as they were when the process began. It has no script, and no module of tests/.
 If a file has changed since, the fork forgets the module of that file and those that import it, so that the script reads
-them anew. If the file is no module, it forgets all modules of the product.
+them anew. If the file is no module, it forgets all modules of the product. If the script starts a program of bin/, that
+is a fork of the script, with its modules.
 
 The process reads requests, each a line of JSON: a script, its words, the file that has changed or an empty text, the
 seconds of the processor that each process of the script may take, and the file that gets what the script prints. For
@@ -15,12 +16,16 @@ import functools
 import gc
 import importlib
 import importlib.util
+import io
 import json
 import os
 import pathlib
 import re
 import resource
+import signal
+import subprocess
 import sys
+import traceback
 import types
 from collections import defaultdict
 from unittest import mock
@@ -94,11 +99,90 @@ def become(script, words, output, longest):
         for number in numbers:
             os.dup2(handle, number)
         os.close(handle)
+    subprocess.Popen = Started
+    run(script, words)
+
+
+def run(script, words):
     sys.argv[:] = [script, *words]
     sys.path[0] = os.path.dirname(script)
     module = sys.modules["__main__"] = types.ModuleType("__main__")
     module.__file__ = script
     exec(compiled(script), module.__dict__)
+
+
+class Started(subprocess.Popen):
+    """A child that is a fork and no new interpreter, if it is a program of bin/ whose environment is that of its parent
+    in all that matters when Python or the product starts."""
+
+    def __init__(self, args, *more, preexec_fn=None, pass_fds=(), env=None, **rest):
+        if not more and not rest.get("executable") and is_program(args) and starts_alike(env):
+            compiled(os.fsdecode(args[0]))  # which the user of the program may not be able to read
+            rest["preexec_fn"] = lambda: run_program(args, preexec_fn, pass_fds, env)
+        else:
+            rest["preexec_fn"] = preexec_fn
+        super().__init__(args, *more, pass_fds=pass_fds, env=env, **rest)
+
+
+def is_program(args):
+    """Returns whether the first word is a program in Python of bin/ of this tree."""
+    words = args if isinstance(args, list) else [""]
+    path = pathlib.Path(os.fsdecode(words[0]))
+    return path.parent == TOP / "bin" and path.is_file() and path.read_bytes()[:22] == b"#!/usr/bin/env python3"
+
+
+def starts_alike(environment):
+    """Returns whether programs with this environment start as this process has started."""
+    def what_matters(names):
+        return {name: names[name] for name in names if re.match("PYTHON|LC_|LANG|LD_|TZ|PATH$|ACLCK", name)}
+    return environment is None or what_matters(environment) == what_matters(os.environ)
+
+
+def run_program(args, before, kept, environment):
+    """Runs a program in a child that is about to start it, and ends the child with its status."""
+    if before:
+        before()
+    for handle in {int(name) for name in os.listdir("/proc/self/fd")} - {0, 1, 2, *kept}:
+        with contextlib.suppress(OSError):
+            os.close(handle)
+    if environment is not None:
+        os.environ.clear()
+        os.environ.update(environment)
+    for number, handler in ((signal.SIGINT, signal.default_int_handler), (signal.SIGPIPE, signal.SIG_IGN),
+                            (signal.SIGXFSZ, signal.SIG_IGN)):  # as an interpreter sets them
+        signal.signal(number, handler)
+    for number, name, mode in ((0, "stdin", "r"), (1, "stdout", "w"), (2, "stderr", "w")):
+        setattr(sys, name, stream(number, mode, getattr(sys, f"__{name}__")))
+    script, *words = map(os.fsdecode, args)
+    try:
+        run(script, words)
+        status = 0
+    except SystemExit as end:
+        status = end.code if isinstance(end.code, int) else int(end.code is not None)
+        if status and status is not end.code:
+            print(end.code, file=sys.stderr)
+    except BaseException as error:
+        traceback.print_exc()
+        status = 1
+        if isinstance(error, KeyboardInterrupt):
+            signal.signal(signal.SIGINT, signal.SIG_DFL)
+            os.kill(os.getpid(), signal.SIGINT)
+    for one in filter(None, (sys.stdout, sys.stderr)):
+        try:
+            one.flush()
+        except (OSError, ValueError):
+            status = 120
+    os._exit(status & 255)
+
+
+def stream(number, mode, like):
+    """Returns a standard stream as Python makes it, or None if it is closed."""
+    try:
+        file = open(number, mode + "b", buffering=-1 if mode == "r" else 0 if like.write_through else -1, closefd=False)
+    except OSError:
+        return None
+    return io.TextIOWrapper(file, like.encoding, like.errors, write_through=like.write_through,
+                            line_buffering=number == 2 or file.isatty())
 
 
 def serve(product):
@@ -117,6 +201,7 @@ def serve(product):
 
 
 if __name__ == "__main__":
+    TOP = pathlib.Path(__file__).resolve().parent.parent
     tests, modules = (pathlib.Path(directory) for directory in sys.argv[1:])
     load_library((tests, modules))
     served = Product(modules)
