@@ -4,6 +4,7 @@ from __future__ import annotations
 
 import functools
 import itertools
+import operator
 from dataclasses import dataclass
 from enum import Enum
 from typing import AbstractSet, Dict, List, NamedTuple, Optional, Sequence, Tuple, Union
@@ -143,6 +144,19 @@ class _Named(NamedTuple):
         """Returns the people by their identities."""
         return cls(identities, Requesters([one or _UNUSED for one in identities]),
                    bits_of(one is not None for one in identities), Classes(identities), if_named)
+
+
+Outcome = Union[RefusedList, Answers]
+"""What is answered about a list: why it is refused, or whom it grants what is asked."""
+
+
+def _put_to(asked: AskableList, want: Want) -> Union[RefusedList, Want]:
+    """Returns what is asked of a list of its kind, or why it has no such right."""
+    if asked.kind is Kind.POSIX:
+        if want.missing and not (want.any and want.perms):
+            return RefusedList(f"a POSIX ACL has no {mask_text(want.missing)}")
+        return want._replace(mask=want.posix_mask)
+    return want
 
 
 _MOST_NAMED = 8
@@ -358,42 +372,58 @@ class Asker:
         """Returns whom one of two answers is enough: granted if one is, and denied if both are."""
         return self._row(one.granted | other.granted, one.denied & other.denied)
 
-    def answers(self, face: Face, want: Want) -> Union[RefusedList, Answers]:
+    def answers(self, face: Face, want: Want) -> Outcome:
         """Returns whom the list of a face grants what is asked."""
+        return self.answers_to(face, [want])[0]
+
+    def answers_to(self, face: Face, wants: Sequence[Want]) -> List[Outcome]:
+        """Returns the same for each of several questions. A list without special identifiers is asked once for all."""
         asked = self.ready(face.list)
         if isinstance(asked, RefusedList):
-            return asked
-        mask = want.mask
-        if asked.kind is Kind.POSIX:
-            if want.missing and not (want.any and want.perms):
-                return RefusedList(f"a POSIX ACL has no {mask_text(want.missing)}")
-            mask = want.posix_mask
-        granted = denied = self._everybody
+            return [asked] * len(wants)
+        put = [_put_to(asked, want) for want in wants]
+        rest = [want for want in put if isinstance(want, Want)]
+        found = iter(self._asked(face, asked, rest) if rest else ())
+        return [want if isinstance(want, RefusedList) else next(found) for want in put]
+
+    def _asked(self, face: Face, asked: AskableList, wants: Sequence[Want]) -> List[Answers]:
+        """Returns whom a list grants what is asked, in all ways in which it may name somebody."""
+        rows = [(self._everybody, self._everybody)] * len(wants)
         for place, people in enumerate(self._named_in(face, asked.kind, asked.acl)):
             if place == 0 or people.known:
-                yes, no = self._answered(face, asked, want._replace(mask=mask), people)
                 others = 0 if place == 0 else ~people.known
-                granted, denied = granted & (yes | others), denied & (no | others)
-        return self._row(granted, denied)
+                rows = [(granted & (yes | others), denied & (no | others)) for (granted, denied), (yes, no)
+                        in zip(rows, self._answered(face, asked, wants, people))]
+        return [self._row(granted, denied) for granted, denied in rows]
 
-    def _answered(self, face: Face, asked: AskableList, want: Want, people: _Named) -> Tuple[int, int]:
+    def _answered(self, face: Face, asked: AskableList, wants: Sequence[Want],
+                  people: _Named) -> List[Tuple[int, int]]:
         """Returns whom of the people, named in one way, a list grants what is asked, and whom it denies that. Of those
         whom it cannot treat differently, the first is asked."""
         owner, group = self.owner_and_group(face, asked.kind)
         named = itertools.chain(asked.named, ((False, owner), (True, group)))
         classes = people.classes.of(people.known, named, bool(asked.specials))
         if classes is None:
-            return self._each_answered(face, asked, want, people)
+            return self._each_answered(face, asked, wants, people)
         firsts = _Named.of([one.first for one in classes])
-        granted, denied = self._each_answered(face, asked, want, firsts) if classes else (0, 0)
-        return everybody(classes, granted), everybody(classes, denied)
+        rows = self._each_answered(face, asked, wants, firsts) if classes else [(0, 0)] * len(wants)
+        return [(everybody(classes, granted), everybody(classes, denied)) for granted, denied in rows]
 
-    def _each_answered(self, face: Face, asked: AskableList, want: Want, people: _Named) -> Tuple[int, int]:
+    def _each_answered(self, face: Face, asked: AskableList, wants: Sequence[Want],
+                       people: _Named) -> List[Tuple[int, int]]:
         """Returns the same. Each of the people is asked."""
         if asked.specials:
-            return self._whomever(face, asked, want, people)
+            return [self._whomever(face, asked, want, people) for want in wants]
         owner, group = self.owner_and_group(face, asked.kind)
-        found = asked.acl.granted_many(people.requesters, owner=owner, group=group, mask=want.mask)
+        rights = functools.reduce(operator.or_, (want.mask for want in wants))
+        masks = asked.acl.granted_many(people.requesters, owner=owner, group=group, mask=rights)
+        return [self._of_masks(face, asked, want, people, masks) for want in wants]
+
+    @staticmethod
+    def _of_masks(face: Face, asked: AskableList, want: Want, people: _Named,
+                  masks: Sequence[int]) -> Tuple[int, int]:
+        """Returns the same about one question, given what the list grants each of the people."""
+        found = [mask & want.mask for mask in masks]
         granted = bits_of([one != 0 for one in found] if want.any else [one == want.mask for one in found])
         if asked.posix and not want.any and want.perms & (want.perms - 1):
             granted = at_once(face, asked.posix, people.identities, granted & people.known, want.perms)

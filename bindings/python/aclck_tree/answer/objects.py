@@ -3,11 +3,11 @@
 from __future__ import annotations
 
 from collections import Counter
-from typing import Dict, Iterable, Iterator, List, NamedTuple, Optional, Tuple, Union
+from typing import Dict, Hashable, Iterable, Iterator, List, NamedTuple, Optional, Set, Tuple
 
 from aclck import mask_text
 
-from aclck_tree.answer.ask import DENIED, GRANTED, UNKNOWN, Answer, Answers, AskOptions, Asker, Want
+from aclck_tree.answer.ask import DENIED, GRANTED, UNKNOWN, Answer, Answers, AskOptions, Asker, Outcome, Want
 from aclck_tree.answer.bits import ones
 from aclck_tree.answer.commands import Tally
 from aclck_tree.answer.lists import AskableList, Kind, RefusedList
@@ -15,6 +15,7 @@ from aclck_tree.answer.obtain import Obtaining, Place
 from aclck_tree.answer.reach import reached, root_note
 from aclck_tree.answer.steps import Stepping
 from aclck_tree.output.text import ObjectName, ObjectNamer, plural, quoted
+from aclck_tree.snapshot.names import Kept
 from aclck_tree.snapshot.selecting import Counted, Paths, beginnings, count_by, counted, selected
 
 
@@ -25,9 +26,6 @@ def left_out(asker: Asker, faces: Iterable[int]) -> str:
     if not numbers:
         return ""
     return f"; {plural(sum(numbers), 'AUDIT or ALARM ACE')} left out of {plural(len(numbers), 'list')}"
-
-
-Outcome = Union[RefusedList, Answers]
 
 
 class Basis(NamedTuple):
@@ -51,6 +49,8 @@ class ObjectsQuestion:
         self._stepping = self.obtaining and Stepping(asker, self.obtaining)
         self.naming = ObjectNamer(asker.snapshot)
         self._own: Dict[int, Outcome] = {}
+        self._answered: Dict[Hashable, int] = {}
+        self.alike = Kept(self._alike, len(asker.faces) + 1)
 
     def _objects(self) -> Iterator[Tuple[int, bytes, int, Optional[Answers], Optional[Place]]]:
         """Returns the tree, the path below its root and the face of each object, with --reach who gets past the
@@ -59,7 +59,7 @@ class ObjectsQuestion:
         has = None if self.glob is None else Paths(snapshot, self.glob).has
         if self.obtaining:
             return ((tree, path, face, place.passed if self.is_reach else None, place)
-                    for tree, path, face, place in self.obtaining.objects() if has is None or has(tree, path))
+                    for tree, path, _, _, face, place in self.obtaining.objects() if has is None or has(tree, path))
         if self.is_reach:
             return ((*one, None) for one in reached(self.asker, has))
         return ((tree, path, face, None, None) for tree, path, _, face in selected(snapshot, self.glob))
@@ -71,12 +71,44 @@ class ObjectsQuestion:
             yield self.naming.name(trees[tree], path), Basis(face, above, place)
 
     def counts(self) -> Dict[Basis, Counted]:
-        """Counts the objects about which the answer depends on the same."""
+        """Counts the objects about which the answer depends on the same. With --obtain, these are all about which the
+        same is answered, and have the basis of the first of them."""
         snapshot = self.asker.snapshot
-        if not self.is_reach and not self.obtaining:
+        if self.obtaining:
+            return self._counts_of_places(self.obtaining)
+        if not self.is_reach:
             return {Basis(face, None): one for face, one in counted(snapshot, self.glob).items()}
         keys = (((face, above, place), tree, path) for tree, path, face, above, place in self._objects())
         return {Basis(*key): one for key, one in count_by(snapshot, keys).items()}
+
+    def _counts_of_places(self, obtaining: Obtaining) -> Dict[Basis, Counted]:
+        bases: Dict[Tuple[int, int], Basis] = {}
+        counts = count_by(self.asker.snapshot, self._keys(obtaining, bases))
+        return {bases[key]: one for key, one in counts.items()}
+
+    def _keys(self, obtaining: Obtaining,
+              bases: Dict[Tuple[int, int], Basis]) -> Iterator[Tuple[Tuple[int, int], int, bytes]]:
+        """Yields of each object what is equal for all about which the same is answered, its tree and its path. Keeps the
+        basis of the first object for each key."""
+        alike, has = self.alike, None if self.glob is None else Paths(self.asker.snapshot, self.glob).has
+        for tree, path, _, _, face, place in obtaining.objects():
+            if has is None or has(tree, path):
+                key = place.number, alike[face]
+                if key not in bases:
+                    bases[key] = Basis(face, place.passed if self.is_reach else None, place)
+                yield key, tree, path
+
+    def _alike(self, face: int) -> int:
+        """Returns a number that is equal for faces about whose objects the same is answered, if their places have the
+        same number."""
+        own, asked = self.own(face), self.asker.ready(self.asker.faces[face].list)
+        is_alone = isinstance(own, RefusedList) or isinstance(asked, RefusedList) or asked.specials
+        key = face if is_alone else (self.asker.faces[face].tree, own)
+        return self._answered.setdefault(key, len(self._answered))
+
+    def _faces(self, counts: Iterable[Basis]) -> Set[int]:
+        """Returns the faces of the objects that were counted."""
+        return set(self.alike) if self.obtaining else {basis.face for basis in counts}
 
     def own(self, face: int) -> Outcome:
         """Returns whom the list of a face grants what is asked."""
@@ -145,7 +177,7 @@ class ObjectsQuestion:
 
     def last_line(self, what: str, tally: Tally, counts: Dict[Basis, int]) -> str:
         """Returns the line that counts the answers, and says what else was asked or was not."""
-        faces = {basis.face for basis in counts}
+        faces = self._faces(counts)
         has_posix = any(self.asker.stored[self.asker.faces[face].list].is_posix for face in faces)
         missing = f"; POSIX ACLs have no {mask_text(self.want.missing)}" if has_posix and self.want.missing else ""
         above = "" if not counts else (root_note(self.asker) if self.is_reach else
@@ -164,6 +196,8 @@ class ObjectsQuestion:
             return ""
         plain = Asker(self.asker.snapshot, self.asker.people, AskOptions(options.domain, not options.linux))
         other = ObjectsQuestion(plain, self.want, self.glob, self.is_reach)
+        if self.obtaining:
+            counts = {Basis(face, None): one.objects for face, one in counted(self.asker.snapshot, self.glob).items()}
         pairs = {(basis, basis): count for basis, count in counts.items()}
         if self.is_reach:
             pairs = Counter((mine, its) for (_, mine), (_, its) in zip(self.objects(), other.objects()))

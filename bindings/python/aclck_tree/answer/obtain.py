@@ -8,19 +8,24 @@ from __future__ import annotations
 
 import copy
 from dataclasses import dataclass, replace
-from typing import Dict, Iterator, Optional, Tuple
+from typing import Dict, Hashable, Iterator, Optional, Tuple
 
 from aclck import EXECUTE, READ_ACL, READ_ATTRIBUTES, READ_DATA, READ_NAMED_ATTRS, SYNCHRONIZE, WRITE_ACL
 
-from aclck_tree.answer.ask import Answers, Asker, Want, want_of
+from aclck_tree.answer.ask import Answers, Asker, Outcome, Want, want_of
 from aclck_tree.answer.lists import AceType, Piece, RefusedList, joined, pieces
 from aclck_tree.answer.reach import above_root, passers
+from aclck_tree.snapshot.names import Kept
 from aclck_tree.snapshot.snapshot import Face, StoredForm, StoredList
 
 USES_WHAT_IS_THERE = READ_DATA | READ_NAMED_ATTRS | EXECUTE | READ_ATTRIBUTES | READ_ACL | SYNCHRONIZE
 """The rights that somebody who puts another object at a path does not get over the object that was there."""
 
 _STICKY = 0o1000
+
+_OF_OBJECTS = (want_of("WRITE_ACL"), want_of("WRITE_OWNER"), want_of("WRITE_ACL|WRITE_OWNER", any_of=True),
+               want_of("DELETE"))
+"""What is asked of the NFSv4 list of each object."""
 
 _OWNERS = {True: (StoredList(StoredForm.MODE, 0o200, None, None), want_of("w")),
            False: (StoredList(StoredForm.NFS4, 0, joined([Piece(0, 0, AceType.ALLOW, 0, WRITE_ACL, b"OWNER@")]), None),
@@ -30,12 +35,13 @@ _OWNERS = {True: (StoredList(StoredForm.MODE, 0o200, None, None), want_of("w")),
 
 @dataclass(frozen=True, eq=False)
 class Place:
-    """Objects of which the same is known: their owner, group and list, and those of each directory above them.
+    """A directory, or other objects in one directory of which the same follows (`Rights.alike`).
 
     `above` is the directory that has them. `/` has none, and neither has an object whose directory the snapshot lacks.
-    `face` is None if the owner, the group and the list are not known, and so is `is_sticky` for a directory above the
-    root of a tree. The answers say who gets past the directories above by their lists (`passed`), who could get past
-    them (`reached`), who could set the list (`controls`), and who could put another object at the path (`taken`).
+    `face` is that of one of the objects. It is None if the owner, the group and the list are not known, and so is
+    `is_sticky` for a directory above the root of a tree. The answers say who gets past the directories above by their
+    lists (`passed`), who could get past them (`reached`), who could set the list (`controls`), and who could put another
+    object at the path (`taken`). Places with the same answers have the same `number`.
     """
 
     above: Optional[Place]
@@ -46,6 +52,7 @@ class Place:
     reached: Answers
     controls: Answers
     taken: Answers
+    number: int
 
 
 class Rights:
@@ -57,6 +64,7 @@ class Rights:
         self._owners: Dict[Tuple[int, int, int, bool], Answers] = {}
         self._asked: Dict[Tuple[Face, str, bool], Answers] = {}
         self._allowed: Dict[Tuple[Face, str], Answers] = {}
+        self._at_last: Dict[Tuple[int, int, int, int], Outcome] = {}
         self._roots: Dict[int, int] = {}
 
     def asked(self, face: Optional[Face], text: str, any_of: bool = False) -> Answers:
@@ -65,9 +73,26 @@ class Rights:
             return self._asker.nobody_known
         key = face, text, any_of
         if key not in self._asked:
-            found = self._asker.answers(face, want_of(text, any_of))
-            self._asked[key] = found if isinstance(found, Answers) else self._asker.nobody_known
+            self._ask(face, want_of(text, any_of))
         return self._asked[key]
+
+    def _ask(self, face: Face, *wants: Want) -> None:
+        for want, found in zip(wants, self._asker.answers_to(face, wants)):
+            key = face, want.text, want.any
+            self._asked[key] = found if isinstance(found, Answers) else self._asker.nobody_known
+
+    def alike(self, face: Face) -> Hashable:
+        """Returns what is equal for the faces of objects, which are no directories, if the same follows from it for all
+        that are in one directory: also by which steps somebody comes to have a right. It is the face itself if its list
+        is refused, or has special identifiers."""
+        asked = self._asker.ready(face.list)
+        if isinstance(asked, RefusedList) or asked.specials:
+            return face
+        if self.is_posix(face):
+            return face.tree, self.owners(face)
+        self._ask(face, *_OF_OBJECTS)
+        return (face.tree, self.owners(face), *(self.asked(face, one.text, one.any) for one in _OF_OBJECTS),
+                self._not_denied(face, "DELETE"))
 
     def roots(self, tree: int) -> int:
         """Returns who of the people has the id 0 in a tree."""
@@ -132,13 +157,18 @@ class Rights:
         return self._allowed[key]
 
     def _allowed_at_last(self, face: Face, text: str) -> Answers:
-        """Returns whom an NFSv4 list grants a right if a last ACE allows it to everybody."""
-        stored = self._asker.stored[face.list]
+        """Returns whom an NFSv4 list grants a right if a last ACE allows it to everybody. Only ACEs with the right
+        decide about it (RFC 8881, section 6.2.1), and these are the same in many lists."""
+        stored, want = self._asker.stored[face.list], want_of(text)
         if isinstance(self._asker.ready(face.list), RefusedList):
             return self._asker.nobody_known
-        last = Piece(0, 0, AceType.ALLOW, 0, want_of(text).mask, b"EVERYONE@")
-        more = replace(stored, access=joined([*pieces(stored.access or b""), last]))
-        found = self._asker.answers(replace(face, list=self._asker.number_of(more)), want_of(text))
+        last = Piece(0, 0, AceType.ALLOW, 0, want.mask, b"EVERYONE@")
+        deciding = [piece for piece in pieces(stored.access or b"") if piece.mask & want.mask]
+        number = self._asker.number_of(replace(stored, access=joined([*deciding, last])))
+        key = face.tree, face.uid, face.gid, number
+        if key not in self._at_last:
+            self._at_last[key] = self._asker.answers(replace(face, list=number), want)
+        found = self._at_last[key]
         return found if isinstance(found, Answers) else self._asker.nobody_known
 
     def replacers(self, directory: Optional[Face], is_sticky: Optional[bool], face: Optional[Face],
@@ -172,8 +202,11 @@ class Obtaining:
         self.want = want
         self._asker = asker
         self._places: Dict[_Key, Place] = {}
+        self._numbers: Dict[Tuple[Answers, ...], int] = {}
+        self._kinds: Dict[Hashable, int] = {}
+        self._alike = Kept(self._kind, len(asker.faces) + 1)
         known = asker.everybody_granted if not is_reach else asker.nobody_known
-        self._lacking = Place(None, None, True, None, known, known, asker.nobody_known, asker.nobody_known)
+        self._lacking = Place(None, None, True, None, known, known, asker.nobody_known, asker.nobody_known, -1)
 
     def about(self, want: Want) -> Obtaining:
         """Returns the same about something else that is asked. Both have the same places."""
@@ -193,25 +226,28 @@ class Obtaining:
         found = asker.either(asker.both(place.reached, own), place.controls)
         return asker.either(found, place.taken) if self.counts_replaced else found
 
-    def objects(self) -> Iterator[Tuple[int, bytes, int, Place]]:
-        """Yields the tree, the path below its root, the face and the place of each object, in the order of
-        `Snapshot.objects`."""
-        faces, known = self._asker.faces, self._kept
+    def _kind(self, face: int) -> int:
+        """Returns a number that is equal for the faces of objects, other than directories, that are alike."""
+        return self._kinds.setdefault(self.rights.alike(self._asker.faces[face]), len(self._kinds))
+
+    def objects(self) -> Iterator[Tuple[int, bytes, bool, int, int, Place]]:
+        """Yields of each object the tree, the path below its root, whether it is a directory (1 or 0), the special bits
+        of its mode, the face and the place, in the order of `Snapshot.objects`."""
+        faces, alike, lacking = self._asker.faces, self._alike, self._lacking
         below: Dict[bytes, Place] = {}
         now: Optional[int] = None
         root: Optional[Place] = None
-        kept: Dict[Tuple[Optional[Place], int, bool, int], Place] = {}
-        for tree, path, is_directory, bits, face in self._asker.snapshot.objects(_STICKY):
+        others: Dict[Tuple[Optional[Place], int], Place] = {}
+        for tree, path, is_directory, bits, face in self._asker.snapshot.objects(0o7000):
             if tree != now:
                 now, below, root = tree, {}, self.above_tree(tree)
-            above = below.get(path.rpartition(b"/")[0], self._lacking) if path else root
-            key = above, face, is_directory, bits
-            place = kept.get(key)
-            if place is None:
-                place = kept[key] = known(above, faces[face], bool(is_directory), bool(bits))
+            above = below.get(path.rpartition(b"/")[0], lacking) if path else root
             if is_directory:
-                below[path] = place
-            yield tree, path, face, place
+                place = below[path] = self._kept(above, faces[face], True, bool(bits & _STICKY))
+            else:
+                key = above, alike[face]
+                place = others.get(key) or others.setdefault(key, self._kept(above, faces[face], False, False))
+            yield tree, path, is_directory, bits, face, place
 
     def above_tree(self, tree: int) -> Optional[Place]:
         """Returns the directory that has the root of a tree, or None for `/`."""
@@ -252,4 +288,5 @@ class Obtaining:
             replacers = rights.replacers(above.face, above.is_sticky, face, is_directory)
             taken = asker.either(asker.either(above.taken, above.controls), asker.both(reached, replacers))
         controls = asker.both(reached, rights.setters(face))
-        return Place(above, face, is_directory, is_sticky, passed, reached, controls, taken)
+        answers = passed, reached, controls, taken
+        return Place(above, face, is_directory, is_sticky, *answers, self._numbers.setdefault(answers, len(self._numbers)))

@@ -58,7 +58,7 @@ class ObtainingJudge:
 
     def places(self) -> Iterator[Place]:
         """Yields the place of each object, in the order of `Snapshot.objects`."""
-        return (place for _, _, _, place in self._obtaining.objects())
+        return (place for *_, place in self._obtaining.objects())
 
     def breaches(self, rule: Rule, number: int, place: Place) -> Iterator[Breach]:
         """Yields how the objects of a face at a place break the bound of a rule, or why that is not known."""

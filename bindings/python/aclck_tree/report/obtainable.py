@@ -24,6 +24,10 @@ class Changers(NamedTuple):
     is_unknown: bool
 
 
+NO_CHANGERS = Changers("", False)
+"""Of objects to which nobody else could come to write."""
+
+
 class Obtainable:
     """Says who could come to write to the objects of a snapshot. With `is_reach`, the directories above count."""
 
@@ -35,24 +39,26 @@ class Obtainable:
         self._question = ObjectsQuestion(asker, want_of("w"), None, is_reach, obtains=True)
         assert self._question.obtaining
         self._obtaining = self._question.obtaining
-        self._known: Dict[Tuple[int, Place], Changers] = {}
+        self._known: Dict[Tuple[int, int], Changers] = {}
         self._words: Dict[int, str] = {}
 
-    def objects(self) -> Iterator[Tuple[Optional[Answers], Changers]]:
-        """Yields for each object, in the order of `Snapshot.objects`, who gets past the directories above by their
-        lists, if that is asked, and who could come to write to it."""
-        for _, _, face, place in self._obtaining.objects():
-            key = face, place
+    def objects(self) -> Iterator[Tuple[int, bytes, Changers, Tuple[bool, int, int, Optional[Answers]]]]:
+        """Yields of each object, in the order of `Snapshot.objects`, the tree, the path below its root, who could come
+        to write to it, and whether it is a directory (1 or 0), the special bits of its mode, its face, and who gets past
+        the directories above by their lists, if that is asked."""
+        alike, is_reach = self._question.alike, self._is_reach
+        for tree, path, is_directory, bits, face, place in self._obtaining.objects():
+            key = place.number, alike[face]
             found = self._known.get(key)
             if found is None:
                 found = self._known[key] = self._changers(face, place)
-            yield place.passed if self._is_reach else None, found
+            yield tree, path, found, (is_directory, bits, face, place.passed if is_reach else None)
 
     def _changers(self, face: int, place: Place) -> Changers:
         basis = Basis(face, place.passed if self._is_reach else None, place)
         found = self._question.found(basis)
         if isinstance(found, RefusedList):
-            return Changers("", False)
+            return NO_CHANGERS
         shares = dict(self._question.shares(basis, found))
         tree = self._asker.faces[face].tree
         roots = self._obtaining.rights.roots(tree)  # that root could do everything is no finding

@@ -4,7 +4,6 @@ from __future__ import annotations
 
 import argparse
 import contextlib
-import itertools
 import os
 import sys
 from dataclasses import dataclass, field, replace
@@ -23,7 +22,7 @@ from aclck_tree.policy.checking import Applied, Policy, tell_slips, verdict_of, 
 from aclck_tree.policy.judging import Verdict
 from aclck_tree.policy.policies import read_policy
 from aclck_tree.report.findings import Finding, everyone_words, findings, special_bits_words
-from aclck_tree.report.obtainable import Changers, Obtainable
+from aclck_tree.report.obtainable import NO_CHANGERS, Changers, Obtainable
 from aclck_tree.report.page import page
 from aclck_tree.report.rows import NAMED, Cells, Level, Name, RowBuilder, level_by, level_of, name_of, questions_of
 from aclck_tree.snapshot.selecting import Paths, beginnings
@@ -40,17 +39,14 @@ class Places:
     names: List[Name] = field(default_factory=list)
 
 
-@dataclass
 class _Kind:
-    """What all objects with one face, one kind and the same special bits of the mode have in common, and how many they
-    are. `unnamed` are those of `places` that still take names."""
+    """Objects about which the same was found, in `places`, and how many they are. `unnamed` are those of the places that
+    still take names."""
 
-    is_folder: bool
-    cells: Cells
-    owners: Tuple[int, ...]
-    places: List[Places]
-    unnamed: List[Places]
-    objects: int = 0
+    def __init__(self, is_folder: bool, places: List[Places]) -> None:
+        self.is_folder = is_folder
+        self.places = self.unnamed = places
+        self.objects = 0
 
     def name(self, name: Name) -> None:
         """Adds the name of an object to what was found about it."""
@@ -58,24 +54,40 @@ class _Kind:
         for places in self.unnamed:
             places.names.append(name)
 
+    def end(self) -> None:
+        """Counts the objects in the places."""
+        for places in self.places:
+            places.folders += self.objects if self.is_folder else 0
+            places.files += 0 if self.is_folder else self.objects
+
+
+class _Faced(_Kind):
+    """What all objects with one face, one kind and the same special bits of the mode have in common."""
+
+    def __init__(self, is_folder: bool, places: List[Places], cells: Cells, owners: Tuple[int, ...]) -> None:
+        super().__init__(is_folder, places)
+        self.cells = cells
+        self.owners = owners
+
 
 class ObjectTraits(NamedTuple):
-    """What objects have in common about which the same is said. With --reach, `above` says who gets past the folders
-    above them. `others` says who could come to write to them. With a policy, `rules` are those about them, and `place`
+    """What objects have in common about which the same is said, apart from who could come to write to them. With
+    --reach, `above` says who gets past the folders above them. With a policy, `rules` are those about them, and `place`
     is where they are, if one of these asks for it."""
 
     is_folder: bool
     bits: int
     face: int
     above: Optional[Answers]
-    others: Changers
     place: Optional[Place] = None
     rules: Tuple[Applied, ...] = ()
 
 
-_Object = Tuple[Any, ...]
-"""An object: its tree, its path, and the values of its `ObjectTraits`. An `ObjectTraits` for each object would be
-slower."""
+_Values = Tuple[Any, ...]
+"""The values of an `ObjectTraits`. An `ObjectTraits` for each object would be slower."""
+
+_Object = Tuple[int, bytes, Changers, _Values]
+"""An object: its tree, its path, who could come to write to it, and the values of its `ObjectTraits`."""
 
 
 class Report:
@@ -112,15 +124,21 @@ class Report:
 
     def _walk(self) -> RowBuilder:
         rows = RowBuilder()
-        kinds: Dict[_Object, _Kind] = {}
-        for one in self.objects():
-            tree, path, values = one[0], one[1], one[2:]
+        kinds: Dict[_Values, _Faced] = {}
+        changed: Dict[Tuple[Changers, bool], _Kind] = {}
+        for tree, path, others, values in self.objects():
             kind = kinds.get(values)
             if kind is None:
                 kind = kinds[values] = self._kind(ObjectTraits(*values))
             kind.objects += 1
             if kind.unnamed:
                 kind.name((tree, path))
+            if others != NO_CHANGERS:
+                key = others, kind.is_folder
+                found = changed.get(key) or changed.setdefault(key, self._changed(*key))
+                found.objects += 1
+                if found.unnamed:
+                    found.name((tree, path))
             row, begins = rows.add(tree, path, kind.is_folder, kind.cells)
             if row is not None:
                 if kind.owners:
@@ -129,10 +147,8 @@ class Report:
                     row.names.append((tree, path))
         self.folders = sum(kind.objects for kind in kinds.values() if kind.is_folder)
         self.files = sum(kind.objects for kind in kinds.values() if not kind.is_folder)
-        for kind in kinds.values():
-            for places in kind.places:
-                places.folders += kind.objects if kind.is_folder else 0
-                places.files += 0 if kind.is_folder else kind.objects
+        for one in (*kinds.values(), *changed.values()):
+            one.end()
         return rows
 
     def name(self, tree: int, path: bytes) -> str:
@@ -142,31 +158,36 @@ class Report:
 
     def objects(self) -> Iterator[_Object]:
         """Yields each object that the report is about, in the order of trees and paths."""
-        found: Iterator[_Object] = self.snapshot.objects(0o7000)
-        places = self.policy.places() if self.policy else itertools.repeat(None)
-        found = ((*one, *more, place) for one, more, place in zip(found, self._obtainable.objects(), places))
+        found: Iterator[_Object] = self._obtainable.objects()
+        if self.policy:
+            found = self._applied(self.policy, found)
         if self.glob is not None:
             paths = Paths(self.snapshot, self.glob)
             found = (one for one in found if paths.has(*one[:2]))
-        if self.policy:
-            found = self._applied(self.policy, found)
         return found
 
     @staticmethod
     def _applied(policy: Policy, objects: Iterator[_Object]) -> Iterator[_Object]:
-        """Adds to objects the rules about them. The place stays if one of these asks for it."""
-        for one in objects:
-            rules = policy.applied(one[0], one[1])
-            yield (*one[:-1], one[-1] and policy.place_for(rules, one[-1]), rules)
+        """Adds to objects the rules about them, and their places if one of these asks for that."""
+        for (tree, path, others, values), place in zip(objects, policy.places()):
+            rules = policy.applied(tree, path)
+            yield tree, path, others, (*values, place and policy.place_for(rules, place), rules)
 
-    def _kind(self, one: ObjectTraits) -> _Kind:
+    def _places(self, found: Iterable[Tuple[Finding, str]]) -> List[Places]:
+        return [self.found[finding.key].setdefault(words, Places(words)) for finding, words in found]
+
+    def _kind(self, one: ObjectTraits) -> _Faced:
         self.lists.add(self.faces[one.face].list)
-        cells, owners = self._cells_of(one)
-        places = [self.found[finding.key].setdefault(words, Places(words)) for finding, words in self.words(one)]
-        places += [self.unsure] if one.others.is_unknown else []
-        return _Kind(one.is_folder, cells, owners, places, places)
+        return _Faced(one.is_folder, self._places(self.words(one)), *self._cells_of(one))
 
-    def words(self, one: ObjectTraits) -> Iterator[Tuple[Finding, str]]:
+    def _changed(self, others: Changers, is_folder: bool) -> _Kind:
+        """Returns the objects to which some others could come to write."""
+        finding = next(finding for finding in self.findings if finding.key == "obtainable")
+        places = self._places([(finding, others.words)] if others.words else [])
+        places += [self.unsure] if others.is_unknown else []
+        return _Kind(is_folder, places)
+
+    def words(self, one: ObjectTraits, others: Changers = NO_CHANGERS) -> Iterator[Tuple[Finding, str]]:
         """Yields what was found about objects."""
         yield from self._broken(one)
         face = self.faces[one.face]
@@ -176,7 +197,7 @@ class Report:
             if finding.key == "bits":
                 words = special_bits_words(self.asker.accounts[face.tree], face, one.bits)
             elif finding.key == "obtainable":
-                words = one.others.words
+                words = others.words
             elif finding.key in ("everyone", "readable") and stranger_is_stopped:
                 words = ""
             elif finding.key == "everyone" and words:
@@ -340,11 +361,11 @@ def report(args: argparse.Namespace) -> int:
 
 def _put_findings(args: argparse.Namespace, made: Report, file: TextIO) -> None:
     out = Output(args.form, made.naming.columns("finding", "path", "what"), lambda row: "", file)
-    known: Dict[_Object, List[Tuple[Finding, str]]] = {}
-    for one in made.objects():
-        tree, path, values = one[0], one[1], one[2:]
-        if values not in known:
-            known[values] = list(made.words(ObjectTraits(*values)))
-        for finding, words in known[values]:
+    known: Dict[Tuple[Changers, _Values], List[Tuple[Finding, str]]] = {}
+    for tree, path, others, values in made.objects():
+        key = others, values
+        if key not in known:
+            known[key] = list(made.words(ObjectTraits(*values), others))
+        for finding, words in known[key]:
             name = made.naming.name(made.snapshot.trees[tree], path)
             out.put({"finding": finding.key, **name.row(), "what": words})

@@ -57,6 +57,9 @@ _MODE = "mode & 4095"
 TIME = "%Y-%m-%dT%H:%M:%SZ"
 """The form of the times at which a scan began and ended, in UTC. A snapshot of others can have any text there."""
 
+_AT_ONCE = 256
+"""How many objects are read at once."""
+
 STEP = 100_000
 """After how many instructions of SQLite the work is counted."""
 
@@ -226,6 +229,14 @@ class Snapshot:
         except (sqlite3.DatabaseError, UnicodeDecodeError) as error:  # a message of SQLite can have any bytes in it
             raise self._unreadable(error) from None
 
+    def _rows_at_once(self, query: str, values: Sequence[object]) -> Iterator[List[Any]]:
+        """Yields the rows of a query, many at once, which is quicker."""
+        try:
+            found = self._db.execute(query, values)
+            yield from iter(lambda: found.fetchmany(_AT_ONCE), [])
+        except (sqlite3.DatabaseError, UnicodeDecodeError) as error:
+            raise self._unreadable(error) from None
+
     def _unreadable(self, error: Exception) -> TreeError:
         words = "it makes more work than any snapshot of its size" if self._steps < 0 else str(error)
         return TreeError(f"{self.place}: cannot be read as a snapshot: {words}")
@@ -308,7 +319,8 @@ class Snapshot:
     def objects(self, bits: int = 0o7777) -> Iterator[Tuple[int, bytes, bool, int, int]]:
         """Yields of all objects the tree, the path, whether it is a directory (1 or 0), these bits of the mode, and the
         face, in the order of trees and paths."""
-        return self._rows(f"SELECT tree, path, kind = 'd', mode & ?, face FROM {_OBJECTS} ORDER BY tree, path", (bits,))
+        query = f"SELECT tree, path, kind = 'd', mode & ?, face FROM {_OBJECTS} ORDER BY tree, path"
+        return itertools.chain.from_iterable(self._rows_at_once(query, (bits,)))
 
     def objects_in(self, tree: int) -> Iterator[Tuple[bytes, bytes, int, int]]:
         """Yields the path, kind, mode and face of the objects of a tree, in the order of paths."""
