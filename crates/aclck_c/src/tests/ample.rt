@@ -7,6 +7,7 @@ mod exceeding;
 mod forms;
 mod implying;
 mod lists;
+mod questions;
 mod restricting;
 
 use super::{BAD_ARGUMENT, DONE, LIST, REFUSED, SHORT, no_fault, normalize_into};
