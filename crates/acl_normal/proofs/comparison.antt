@@ -54,11 +54,13 @@ pub mod RenumberedWhoms
 pub mod ColumnLemmas
 -- the least number for which something does not hold, of rising numbers
 pub mod LeastNumber
--- the first principals at which two lists differ on one right
+-- the first pair of principals at which two lists differ on one right
 pub mod FoundOnRight
--- the first principals at which two lists differ, right by right
+-- the first pair of principals at which two lists differ, right by right
 pub mod FoundSoFar
--- the first small set, of the first principals at which two lists differ on all rights
+-- what a list grants to each principal alone
+pub mod GrantedAloneLemmas
+-- the first small set, of the first principal and the first pair at which two lists differ on all rights
 pub mod FoundOnAll
 -- the first small set, by least numbers
 pub mod Assembly

@@ -1,12 +1,15 @@
 -- The rights on which two lists may differ, by a walk over both.
-use Rattle.acl_normal.proofs.Common.{Ace, ace, AceRef, aces_in, and_parts, ap, AreWhoms, arith, at_drop_more, Bool, column, cond, drop, eq-eqb, eqb-true, Everyone, everyone, false, false≢true, get_or-map, has_bit, IsUnion, IsWhom, length, length-map, List, no_ace, no_bit, Nobody, not, One, or_parts, Principal, principal_eq, principal_of, refl, slice_index_or, subst, sym, takes_part, true, Whom, ℕ, ◌&&◌, ◌+◌, ◌<◌, ◌∙◌, ◌∷◌, ◌≡◌}
+use Rattle.acl_normal.proofs.Common.{Ace, ace, AceRef, aces_in, and_parts, ap, AreWhoms, arith, at_drop_more, Bool, column, cond, drop, eq-eqb, eqb-true, Everyone, everyone, false, false≢true, get_or-map, has_bit, IsUnion, IsWhom, length, length-map, List, no_ace, no_bit, Nobody, not, One, or_parts, Principal, principal_eq, principal_of, refl, slice_index_or, subst, sym, takes_part, true, Whom, ℕ, ◌&&◌, ◌||◌, ◌+◌, ◌<◌, ◌∙◌, ◌∷◌, ◌≡◌}
+use Rattle.acl_normal.proofs.comparison.Directions.{same_answer}
 use Rattle.acl_normal.proofs.comparison.FirstPlaceLemmas.{whom_at}
 use Rattle.acl_normal.proofs.comparison.Numbers.{is_of_own}
 use Rattle.acl_normal.proofs.unique.Columns.{column_first}
 use Rattle.acl_normal.proofs.unique.Names.{kind_eq_same, principal_eq_same}
+use Rattle.acl_normal.specs.internal.comparison.Directions.{differ_in}
 use Rattle.acl_normal.specs.internal.comparison.FirstPlaces.{names_any, same_whom}
-use Rattle.acl_normal.specs.internal.comparison.RightsApart.{HasOpenBits, say_the_same}
+use Rattle.acl_normal.specs.internal.comparison.RightsApart.{HasOpenBits, have_same_key}
 use Rattle.acl_normal.specs.declared.comparison.differing_rights.Statement.{Statement}
+use Rattle.acl_normal.specs.declared.comparison.direction.Direction.TheVariants.{Either}
 
 -- the code's value at a place says whom the ACE there names
 pub is_whom_at : (whole : List Principal) (refs : List AceRef) (ws : List Whom) {x : AceRef} {w : Whom} {i : ℕ}
@@ -76,56 +79,56 @@ pub record AreWalked (refs others : List AceRef) (here there apart : ℕ) : Type
       → column (aces_in (drop here refs)) bit ≡ column (aces_in (drop there others)) bit
       → column (aces_in refs) bit ≡ column (aces_in others) bit
 
--- the walk continues after an ACE of the first list without open rights
+-- without open rights no right is apart that was not
+pub none_more : (apart : ℕ) {own : ℕ} → own ≡ 0 → IsUnion apart own apart
+none_more apart {own} none = λ bit. sym (ap (λ m. has_bit apart bit || has_bit m bit) none
+    ∙ ap (λ t. has_bit apart bit || t) (no_bit bit) ∙ or_false (has_bit apart bit))
+  where
+    or_false : (t : Bool) → (t || false) ≡ t
+    or_false t = grind arith
+
+-- the walk continues after an ACE of the first list whose open rights are apart from now on
 pub walk_here : (whole : List Principal) {refs others : List AceRef} (ws : List Whom) {x : AceRef} {w : Whom}
-    {here there apart own : ℕ} → here < length refs → x ≡ slice_index_or refs here x → w ≡ slice_index_or ws here Nobody
-    → AreWhoms whole (aces_in refs) ws → HasOpenBits (ace x) w apart own → own ≡ 0
-    → AreWalked refs others here there apart → AreWalked refs others (here + 1) there apart
-walk_here whole {refs} {others} ws {x} {w} {here} {there} {apart} {own} lt at wi all h none inv = record {
-  same = λ bit e rest. inv.same bit e
-      (column_passed whole refs ws x w here apart own bit lt at wi all h e (ap (λ m. has_bit m bit) none ∙ no_bit bit)
-      ∙ rest);
+    {here there apart own new : ℕ} → here < length refs → x ≡ slice_index_or refs here x
+    → w ≡ slice_index_or ws here Nobody
+    → AreWhoms whole (aces_in refs) ws → HasOpenBits (ace x) w apart own → IsUnion apart own new
+    → AreWalked refs others here there apart → AreWalked refs others (here + 1) there new
+walk_here whole {refs} {others} ws {x} {w} {here} {there} {apart} {own} lt at wi all h u inv = record {
+  same = λ bit e rest.
+      let parts = or_parts (has_bit apart bit) (has_bit own bit) (sym (u bit) ∙ e) in
+      inv.same bit parts.0 (column_passed whole refs ws x w here apart own bit lt at wi all h parts.0 parts.1 ∙ rest);
 }
 
--- the walk continues after an ACE of the second list without open rights
+-- the walk continues after an ACE of the second list whose open rights are apart from now on
 pub walk_there : (whole : List Principal) {refs others : List AceRef} (ws : List Whom) {x : AceRef} {w : Whom}
-    {here there apart own : ℕ} → there < length others → x ≡ slice_index_or others there x
+    {here there apart own new : ℕ} → there < length others → x ≡ slice_index_or others there x
     → w ≡ slice_index_or ws there Nobody → AreWhoms whole (aces_in others) ws → HasOpenBits (ace x) w apart own
-    → own ≡ 0 → AreWalked refs others here there apart → AreWalked refs others here (there + 1) apart
-walk_there whole {refs} {others} ws {x} {w} {here} {there} {apart} {own} lt at wi all h none inv = record {
-  same = λ bit e rest. inv.same bit e (rest
-      ∙ sym (column_passed whole others ws x w there apart own bit lt at wi all h e
-      (ap (λ m. has_bit m bit) none ∙ no_bit bit)));
+    → IsUnion apart own new → AreWalked refs others here there apart → AreWalked refs others here (there + 1) new
+walk_there whole {refs} {others} ws {x} {w} {here} {there} {apart} {own} lt at wi all h u inv = record {
+  same = λ bit e rest.
+      let parts = or_parts (has_bit apart bit) (has_bit own bit) (sym (u bit) ∙ e) in
+      inv.same bit parts.0
+      (rest ∙ sym (column_passed whole others ws x w there apart own bit lt at wi all h parts.0 parts.1));
 }
 
--- the walk continues after two ACEs whose open rights are apart from now on
-pub walk_apart : (whole : List Principal) {refs others : List AceRef} (ws vs : List Whom) {x y : AceRef} {w v : Whom}
-    {here there apart own theirs : ℕ} (more : ℕ) {new : ℕ} → here < length refs → there < length others
+-- the walk continues after two ACEs with the same kind and principal, if the open rights that only one of them has are
+-- apart from now on
+pub walk_both : (whole : List Principal) {refs others : List AceRef} (ws vs : List Whom) {x y : AceRef} {w v : Whom}
+    {here there apart own theirs : ℕ} (differing : ℕ) {new : ℕ} → here < length refs → there < length others
     → x ≡ slice_index_or refs here x → y ≡ slice_index_or others there y → w ≡ slice_index_or ws here Nobody
     → v ≡ slice_index_or vs there Nobody → AreWhoms whole (aces_in refs) ws → AreWhoms whole (aces_in others) vs
-    → HasOpenBits (ace x) w apart own → HasOpenBits (ace y) v apart theirs → IsUnion apart own more
-    → IsUnion more theirs new
+    → HasOpenBits (ace x) w apart own → HasOpenBits (ace y) v apart theirs
+    → ((bit : ℕ) → has_bit differing bit ≡ differ_in Either (has_bit own bit) (has_bit theirs bit))
+    → IsUnion apart differing new → w ≡ v → x.kind ≡ y.kind
     → AreWalked refs others here there apart → AreWalked refs others (here + 1) (there + 1) new
-walk_apart whole {refs} {others} ws vs {x} {y} {w} {v} {here} {there} {apart} {own} {theirs} more lh lt xa ya wi vi hw
-    hv ho ht u z inv =
+walk_both whole {refs} {others} ws vs {x} {y} {w} {v} {here} {there} {apart} {own} {theirs} differing {new} lh lt xa ya wi vi
+    hw hv ho ht d u we ke inv =
     record {
       same = λ bit e rest.
-          let outer = or_parts (has_bit more bit) (has_bit theirs bit) (sym (z bit) ∙ e) in
-          let inner = or_parts (has_bit apart bit) (has_bit own bit) (sym (u bit) ∙ outer.0) in
-          inv.same bit inner.0 (column_passed whole refs ws x w here apart own bit lh xa wi hw ho inner.0 inner.1 ∙ rest
-          ∙ sym (column_passed whole others vs y v there apart theirs bit lt ya vi hv ht inner.0 outer.1));
+          let parts = or_parts (has_bit apart bit) (has_bit differing bit) (sym (u bit) ∙ e) in
+          inv.same bit parts.0 (heads bit parts.0
+          (same_answer (has_bit own bit) (has_bit theirs bit) (sym (d bit) ∙ parts.1)) rest);
     }
-
--- the walk continues after two ACEs with the same open rights, kind and principal
-pub walk_both : (whole : List Principal) {refs others : List AceRef} (ws vs : List Whom) {x y : AceRef} {w v : Whom}
-    {here there apart own theirs : ℕ} → here < length refs → there < length others
-    → x ≡ slice_index_or refs here x → y ≡ slice_index_or others there y → w ≡ slice_index_or ws here Nobody
-    → v ≡ slice_index_or vs there Nobody → AreWhoms whole (aces_in refs) ws → AreWhoms whole (aces_in others) vs
-    → HasOpenBits (ace x) w apart own → HasOpenBits (ace y) v apart theirs → own ≡ theirs → w ≡ v → x.kind ≡ y.kind
-    → AreWalked refs others here there apart → AreWalked refs others (here + 1) (there + 1) apart
-walk_both whole {refs} {others} ws vs {x} {y} {w} {v} {here} {there} {apart} {own} {theirs} lh lt xa ya wi vi hw hv ho
-    ht oe we ke inv =
-    record { same = λ bit e rest. inv.same bit e (heads bit e rest) }
   where
     named : IsWhom whole (ace x) w
     named = is_whom_at whole _ _ lh xa wi hw
@@ -144,13 +147,13 @@ walk_both whole {refs} {others} ws vs {x} {y} {w} {v} {here} {there} {apart} {ow
     joined true false bit e p rest = cc
     joined false true bit e p rest = cc
 
-    heads : (bit : ℕ) → has_bit apart bit ≡ false
+    heads : (bit : ℕ) → has_bit apart bit ≡ false → has_bit own bit ≡ has_bit theirs bit
         → column (aces_in (drop (here + 1) refs)) bit ≡ column (aces_in (drop (there + 1) others)) bit
         → column (aces_in (drop here refs)) bit ≡ column (aces_in (drop there others)) bit
-    heads bit e rest =
+    heads bit e oe rest =
         column_at refs x here bit lh xa ∙ column_first bit (ace x) (aces_in (drop (here + 1) refs))
         ∙ joined (has_bit x.mask.bits bit && takes_part (ace x)) (has_bit y.mask.bits bit && takes_part (ace y)) bit
-        (sym (open_is whole (ace x) w apart own bit named ho e) ∙ ap (λ m. has_bit m bit) oe
+        (sym (open_is whole (ace x) w apart own bit named ho e) ∙ oe
         ∙ open_is whole (ace y) v apart theirs bit also ht e)
         (λ t. same_principal whole (ace x) (ace y) w named (subst (λ k. IsWhom whole (ace y) k) (sym we) also)
         (and_parts (has_bit x.mask.bits bit) (takes_part (ace x)) t).1)
@@ -161,16 +164,14 @@ walk_both whole {refs} {others} ws vs {x} {y} {w} {v} {here} {there} {apart} {ow
 named_alike : (v w : Whom) → same_whom v w ≡ true → v ≡ w
 named_alike v w h = grind (arith, eqb-true)
 
--- two statements with the same rights, principal and kind
+-- two statements with the same principal and kind
 pub record AreAlike (s t : Statement) : Type 0 where
-  pub rights : s.rights.bits ≡ t.rights.bits
   pub whom : s.whom ≡ t.whom
   pub kind : s.kind ≡ t.kind
 
 -- two statements that pass the test are alike
-pub alike_is : (s t : Statement) → say_the_same s t ≡ true → AreAlike s t
+pub alike_is : (s t : Statement) → have_same_key s t ≡ true → AreAlike s t
 alike_is s t h = record {
-  rights = eqb-true s.rights.bits t.rights.bits (grind arith);
   whom = named_alike s.whom t.whom (grind arith);
   kind = kind_eq_same s.kind t.kind (grind arith);
 }

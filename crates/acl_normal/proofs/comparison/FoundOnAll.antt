@@ -1,12 +1,12 @@
--- The first small set, of the first principals at which two lists differ on all rights.
+-- The first small set, of the first principal and the first pair at which two lists differ on all rights.
 use Rattle.acl_normal.proofs.Common.{[], all_mentioned, ap, arith, cases_lt, everyone, FindSet, inl, inr, length, may_overlap, None, refl, slice_index_or, Some, subst, sym, true, TwoLists, ℕ, ◌+◌, ◌-◌, ◌<◌, ◌∙◌, ◌∷◌, ◌≡◌, ◌≤◌}
 use Rattle.std.proofs.lemmas.List.{get_or-drop, length-drop}
 use Rattle.acl_normal.proofs.comparison.Assembly.{none_answer, pair_answer, partner_within, single_answer}
 use Rattle.acl_normal.specs.internal.comparison.FirstPlaces.{IsLeast, OnAll}
-use Rattle.acl_normal.specs.internal.comparison.FirstPrincipals.{AlikeToLater, IsFoundOnAll, mentioned_count}
+use Rattle.acl_normal.specs.internal.comparison.FirstPair.{AlikeToLater, AreAlikeAlone, IsFoundOnAll, mentioned_count}
 use Rattle.acl_normal.specs.internal.comparison.SetSearch.{AlikeAt}
-use Rattle.acl_normal.specs.internal.comparison.TwoLists.{AreAlikeTo, IsFirstPartner, later_than, principal_at}
-use Rattle.acl_normal.specs.declared.comparison.first_principals.FirstPrincipals.{FirstPrincipals}
+use Rattle.acl_normal.specs.internal.comparison.TwoLists.{AreAlikeTo, IsFirstPartner, IsFirstSingle, later_than, principal_at}
+use Rattle.acl_normal.specs.declared.comparison.first_pair.FirstPair.{FirstPair}
 
 -- the first partner, counted from the principal after the member
 later_partner : (both : TwoLists) (at partner : ℕ) → at < mentioned_count both
@@ -42,34 +42,32 @@ later_partner both at partner lt h = (
     later_is k = get_or-drop (at + 1) (all_mentioned both) k everyone
 
 -- a single principal that is found is the first small set
-pub found_one : (both : TwoLists) {f : FirstPrincipals} → AreAlikeTo both []
-    → IsFoundOnAll both f → f.single < mentioned_count both
-    → FindSet both (Some (principal_at both f.single ∷ []))
-found_one both {f} empty found lt =
-    single_answer both (principal_at both f.single) f.single empty found.single lt refl
+pub found_one : (both : TwoLists) {single : ℕ} → AreAlikeTo both [] → IsFirstSingle both single
+    → single < mentioned_count both → FindSet both (Some (principal_at both single ∷ []))
+found_one both {single} empty least lt = single_answer both (principal_at both single) single empty least lt refl
+
+-- if there is no such principal, the lists do not differ for any alone
+pub alike_alone : (both : TwoLists) {single : ℕ} → IsFirstSingle both single → mentioned_count both ≤ single
+    → AreAlikeAlone both
+alike_alone both least le k l = least.before k (omega (arith, l, le))
 
 -- if nothing is found, there is no such set
-pub found_nobody : (both : TwoLists) {f : FirstPrincipals} → AreAlikeTo both []
-    → IsFoundOnAll both f → mentioned_count both ≤ f.single
-    → f.member ≡ mentioned_count both → FindSet both None
-found_nobody both {f} empty found le is =
-    let within = found.single.within in
-    none_answer both f.single f.member empty found.single le (found.member (omega (arith, le, within))) is
+pub found_nobody : (both : TwoLists) {single : ℕ} {f : FirstPair} → AreAlikeTo both [] → IsFirstSingle both single
+    → mentioned_count both ≤ single → IsFoundOnAll both f → f.member ≡ mentioned_count both → FindSet both None
+found_nobody both {single} {f} empty least le found is =
+    none_answer both single f.member empty least le found.member is
 
 -- a pair that is found is the first small set, and both numbers are those of principals
-pub found_two : (both : TwoLists) {f : FirstPrincipals} → AreAlikeTo both []
-    → IsFoundOnAll both f → mentioned_count both ≤ f.single
-    → (f.member ≡ mentioned_count both → ⊥)
+pub found_two : (both : TwoLists) {single : ℕ} {f : FirstPair} → AreAlikeTo both [] → IsFirstSingle both single
+    → mentioned_count both ≤ single → IsFoundOnAll both f → (f.member ≡ mentioned_count both → ⊥)
     → FindSet both (Some (principal_at both f.member ∷ principal_at both f.partner ∷ []))
     × ((f.member < mentioned_count both) × (f.partner < mentioned_count both))
-found_two both {f} empty found le some =
-    let bound = found.single.within in
-    let none : f.single ≡ mentioned_count both = omega (arith, le, bound) in
-    let member = found.member none in
+found_two both {single} {f} empty least le found some =
+    let member = found.member in
     let inside = member.within in
     let lt : f.member < mentioned_count both = omega (arith, inside, some) in
-    let partner = later_partner both f.member f.partner lt (found.partner none lt) in
+    let partner = later_partner both f.member f.partner lt (found.partner lt) in
     let after = partner.0 in (
-      pair_answer both empty found.single le member lt partner.1 (omega (arith, after)) refl refl,
-      (lt, omega (arith, after, partner_within both found.single le member lt partner.1)),
+      pair_answer both empty least le member lt partner.1 (omega (arith, after)) refl refl,
+      (lt, omega (arith, after, partner_within both least le member lt partner.1)),
     )

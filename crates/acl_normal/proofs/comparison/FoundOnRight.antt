@@ -1,23 +1,23 @@
--- The first principals at which two lists differ on one right.
-use Rattle.acl_normal.proofs.Common.{[], ace, aces_in, AgreesAt, all_mentioned, AllByRecursion, ap, ArePlacings, arith, drop, everyone, false, get_or-map, get_or_read, inl, inr, inverts, inverts_any, is_granted_to, IsPlacing, length, length-map, List, may_overlap, no_placing, Placing, Principal, principals, refl, SameAlone, slice_index_or, subst, sym, true, TwoLists, ℕ, ◌+◌, ◌-◌, ◌<◌, ◌∙◌, ◌∷◌, ◌≡◌, ◌≤◌, ◌⊎◌}
+-- The first pair of principals at which two lists differ on one right.
+use Rattle.acl_normal.proofs.Common.{[], ace, aces_in, AgreesAt, all_mentioned, AllByRecursion, ap, ArePlacings, arith, drop, everyone, false, false_from_ne_true, get_or-map, get_or_read, inl, inr, inverts, inverts_any, is_granted_to, IsPlacing, length, length-map, List, may_overlap, no_placing, Placing, Principal, principals, refl, SameAlone, slice_index_or, subst, sym, true, TwoLists, ℕ, ◌+◌, ◌-◌, ◌<◌, ◌∙◌, ◌∷◌, ◌≡◌, ◌≤◌, ◌⊎◌}
 use Rattle.std.proofs.lemmas.Bool.{cases_order}
 use Rattle.std.proofs.lemmas.List.{get_or-drop, length-drop}
 use Rattle.acl_normal.proofs.Each.{all_at, all_from}
 use Rattle.acl_normal.proofs.comparison.Assembly.{pair_swapped}
-use Rattle.acl_normal.proofs.comparison.UnnamedPrincipals.{granted_kept, unnamed_alone, unnamed_pair}
+use Rattle.acl_normal.proofs.comparison.UnnamedPrincipals.{granted_kept, unnamed_pair}
 use Rattle.acl_normal.proofs.comparison.Directions.{differ_moved}
 use Rattle.acl_normal.proofs.comparison.PairGrants.{agrees_from_rows, inverted_differ, not_agrees_from_rows, not_inverted}
-use Rattle.acl_normal.proofs.comparison.RowFacts.{alone_from_row, not_alone_from_row, row_at, rows_length}
+use Rattle.acl_normal.proofs.comparison.RowFacts.{not_alone_from_row, row_at, rows_length}
 use Rattle.acl_normal.proofs.comparison.PlacesWithin.{rows_within}
 use Rattle.acl_normal.specs.internal.comparison.PlaceTables.{IsPlacingWithin}
 use Rattle.acl_normal.specs.internal.comparison.Columns.{AreColumnsOf, IsLeftOut, IsNumberOr}
 use Rattle.acl_normal.specs.internal.comparison.FirstPlaces.{AlikeAlone, IsFirstBelow, IsLeast, is_unlike}
-use Rattle.acl_normal.specs.internal.comparison.FirstPrincipals.{AlikeToLater, IsFoundOn, IsNothing, mentioned_count}
+use Rattle.acl_normal.specs.internal.comparison.FirstPair.{AlikeToLater, IsFoundOn, IsNothing, mentioned_count}
 use Rattle.acl_normal.specs.internal.comparison.SetSearch.{AlikeAt}
 use Rattle.acl_normal.specs.internal.comparison.TwoLists.{AlikeToOne, AlikeToPairs, principal_at}
 use Rattle.acl_normal.specs.declared.comparison.columns.Columns.{Columns}
 use Rattle.acl_normal.specs.declared.comparison.direction.Direction.{Direction}
-use Rattle.acl_normal.specs.declared.comparison.first_principals.FirstPrincipals.{FirstPrincipals}
+use Rattle.acl_normal.specs.declared.comparison.first_pair.FirstPair.{FirstPair}
 use Rattle.acl_normal.proofs.comparison.LeastNumber.{least_number}
 
 -- for the columns of two lists on one right, with the places of their principals
@@ -62,13 +62,7 @@ module _ (both : TwoLists) (bit : ℕ) (c : Columns) (rows : List Placing) (colu
       → AlikeAt both.direction (aces_in c.first.aces.items) (aces_in c.second.aces.items) set bit
   to_columns set = differ_moved both.direction (here_granted set) (there_granted set)
 
-  -- the lists do not differ for one that is left out alone
-  out_alone : (k : ℕ) → AlikeAt both.direction both.first both.second [] bit → IsLeftOut both bit k
-      → AlikeToOne both bit k
-  out_alone k nobody out = differ_moved both.direction (unnamed_alone both.first bit (principal_at both k) out.first)
-      (unnamed_alone both.second bit (principal_at both k) out.second) nobody
-
-  -- nor for another one with it, if they do not differ for that one alone
+  -- the lists do not differ for one that is left out and another one, if they do not differ for that one alone
   out_second : (k m : ℕ) → AlikeToOne both bit k → IsLeftOut both bit m
       → AlikeAt both.direction both.first both.second (principal_at both k ∷ principal_at both m ∷ []) bit
   out_second k m alone out =
@@ -82,49 +76,12 @@ module _ (both : TwoLists) (bit : ℕ) (c : Columns) (rows : List Placing) (colu
       differ_moved both.direction (pair_swapped both.first (principal_at both k) (principal_at both m) bit)
       (pair_swapped both.second (principal_at both k) (principal_at both m) bit) (out_second m k alone out)
 
-  -- the lists do not differ for the principal of a number alone if the columns do not
-  one_to_lists : (j : ℕ) → j < length c.numbers.items
-      → AlikeAlone both.direction (aces_in c.first.aces.items) (aces_in c.second.aces.items) ps bit j
-      → AlikeToOne both bit (number_at j)
-  one_to_lists j l h = to_lists (principal_at both (number_at j) ∷ [])
-      (subst (λ p. AlikeAt both.direction (aces_in c.first.aces.items) (aces_in c.second.aces.items) (p ∷ []) bit)
-      (numbered j l) h)
-
+  -- the columns do not differ for the principal of a number alone if the lists do not
   one_to_columns : (j : ℕ) → j < length c.numbers.items → AlikeToOne both bit (number_at j)
       → AlikeAlone both.direction (aces_in c.first.aces.items) (aces_in c.second.aces.items) ps bit j
   one_to_columns j l h =
       subst (λ p. AlikeAt both.direction (aces_in c.first.aces.items) (aces_in c.second.aces.items) (p ∷ []) bit)
       (sym (numbered j l)) (to_columns (principal_at both (number_at j) ∷ []) h)
-
-  -- the number of the first placing that is unlike is that of the first single principal
-  pub single_found : {own : Direction} {place least end : ℕ} {shown : List Placing} → own ≡ both.direction
-      → shown ≡ rows → end ≡ length rows
-      → AlikeAt both.direction both.first both.second [] bit
-      → IsFirstBelow (is_unlike own) shown end place
-      → IsNumberOr c.numbers.items place (mentioned_count both) least
-      → IsLeast (AlikeToOne both bit) (mentioned_count both) least
-  single_found {own} {place} {least} {end} {shown} same is all nobody found number =
-      let first : IsFirstBelow (is_unlike both.direction) rows end place =
-      subst (λ v. IsFirstBelow (is_unlike both.direction) v end place) is
-      (subst (λ v. IsFirstBelow (is_unlike v) shown end place) same found) in
-      least_number c.numbers.items (mentioned_count both) place least (AlikeToOne both bit) columns.below columns.rising
-      (λ k l. elim (columns.others k l) [
-        | inl there ↦ inl there
-        | inr out ↦ inr (out_alone k nobody out)
-      ])
-      (λ j lj inside. one_to_lists j inside
-      (alone_from_row both.direction ps (aces_in c.first.aces.items) (aces_in c.second.aces.items) bit j rows
-      (omega (arith, inside, counts.0)) placed (first.before j lj)))
-      (λ inside alike. not_alone_from_row both.direction ps (aces_in c.first.aces.items) (aces_in c.second.aces.items)
-      bit place rows (omega (arith, inside, counts.0)) placed (first.at (omega (arith, inside, all, counts.1)))
-      (one_to_columns place inside alike))
-      number
-
-  -- if no placing is unlike, each is alike
-  pub all_same : (own : Direction) {place end : ℕ} {shown : List Placing} → end ≡ length shown → end ≤ place
-      → IsFirstBelow (is_unlike own) shown end place → AllByRecursion (SameAlone own) shown
-  all_same own {place} {end} {shown} all past found =
-      all_from (SameAlone own) shown no_placing (λ j lj. found.before j (omega (arith, lj, all, past)))
 
   -- if two may overlap, the columns do not differ for both together
   abbrev pub ColumnsAlike : Principal → Principal → Type 0
@@ -294,61 +251,44 @@ module _ (both : TwoLists) (bit : ℕ) (c : Columns) (rows : List Placing) (colu
       → IsNumberOr c.numbers.items place (mentioned_count both) number
   past_end past is = record { inside = λ l. absurd (omega (arith, l, past)); past = λ _. is }
 
-  module _ (nobody : AlikeAt both.direction both.first both.second [] bit) {own : Direction} {shown : List Placing}
-      {single end : ℕ} (way : own ≡ both.direction) (is : shown ≡ rows) (all : end ≡ length rows)
-      (unlike : IsFirstBelow (is_unlike own) shown end single) where
-    -- if a placing is unlike, its principal is found
-    pub found_single : {least member partner : ℕ} → single < end
-        → IsNumberOr c.numbers.items single (mentioned_count both) least
-        → IsFoundOn both bit (record { single = least; member = member; partner = partner })
-    found_single {least} lt number =
-        let inside : single < length c.numbers.items = omega (arith, lt, all, counts.1) in
-        let value = number.inside inside in
-        let below = columns.below single inside in
-        record {
-          single = single_found way is all nobody unlike number;
-          member = λ e. absurd (omega (arith, e, value, below));
-          partner = λ e l. absurd (omega (arith, e, value, below));
-        }
+  module _ (alone : (k : ℕ) → k < mentioned_count both → AlikeToOne both bit k) {own : Direction} {shown : List Placing}
+      (way : own ≡ both.direction) (is : shown ≡ rows) where
+    -- the lists do not differ for anyone of the columns alone
+    pub none_unlike : AllByRecursion (SameAlone own) shown
+    none_unlike = subst (λ v. AllByRecursion (SameAlone v) shown) (sym way)
+        (subst (AllByRecursion (SameAlone both.direction)) (sym is)
+        (all_from (SameAlone both.direction) rows no_placing (λ j lj.
+        let inside : j < length c.numbers.items = omega (arith, lj, counts.1) in
+        false_from_ne_true (is_unlike both.direction (slice_index_or rows j no_placing)) (λ unlike.
+        not_alone_from_row both.direction ps (aces_in c.first.aces.items) (aces_in c.second.aces.items) bit j rows
+        (omega (arith, inside, counts.0)) placed unlike
+        (one_to_columns j inside (alone (number_at j) (columns.below j inside)))))))
 
-    module _ (past : end ≤ single) where
-      -- else the lists do not differ for anyone alone
-      pub none_unlike : AllByRecursion (SameAlone own) shown
-      none_unlike = all_same own (all ∙ sym (ap length is)) past unlike
-
-      none_single : {s : ℕ} → s ≡ mentioned_count both → IsLeast (AlikeToOne both bit) (mentioned_count both) s
-      none_single {s} e = single_found way is all nobody unlike (past_end (omega (arith, past, all, counts.1)) e)
-
-      alone : (k : ℕ) → k < mentioned_count both → AlikeToOne both bit k
-      alone k l = (none_single refl).before k l
-
-      -- and if no placing inverts another, nothing is found
-      pub found_nothing : {member : ℕ} {f : FirstPrincipals} → end ≤ member
+    module _ {end : ℕ} (all : end ≡ length rows) where
+      -- if no placing inverts another, nothing is found
+      pub found_nothing : {member : ℕ} {f : FirstPair} → end ≤ member
           → IsFirstBelow (λ r. inverts_any own r shown) shown end member → IsNothing both f → IsFoundOn both bit f
       found_nothing {member} {f} after inverting h = record {
-        single = none_single h.single;
-        member = λ _. member_found alone way is all none_unlike inverting
+        member = member_found alone way is all none_unlike inverting
             (past_end (omega (arith, after, all, counts.1)) h.member);
-        partner = λ e l. absurd (omega (arith, l, h.member));
+        partner = λ l. absurd (omega (arith, l, h.member));
       }
 
       -- else a pair is found
-      pub found_pair : {member partner end_of_others s m p : ℕ} {row : Placing} {others : List Placing}
+      pub found_pair : {member partner end_of_others m p : ℕ} {row : Placing} {others : List Placing}
           → member < end → IsFirstBelow (λ r. inverts_any own r shown) shown end member
           → row ≡ slice_index_or rows member row → others ≡ drop (member + 1) shown → end_of_others ≡ length others
           → IsFirstBelow (inverts own row) others end_of_others partner
-          → s ≡ mentioned_count both → IsNumberOr c.numbers.items member (mentioned_count both) m
+          → IsNumberOr c.numbers.items member (mentioned_count both) m
           → IsNumberOr c.numbers.items (member + 1 + partner) (mentioned_count both) p
-          → IsFoundOn both bit (record { single = s; member = m; partner = p })
-      found_pair {member} {partner} {end_of_others} {s} {m} {p} {row} {others} lt inverting read rest long inverted e
-          one two =
+          → IsFoundOn both bit (record { member = m; partner = p })
+      found_pair {member} {partner} {end_of_others} {m} {p} {row} {others} lt inverting read rest long inverted one two =
           let inside : member < length c.numbers.items = omega (arith, lt, all, counts.1) in
           let own_row : row ≡ slice_index_or rows member no_placing =
           get_or_read rows member row (omega (arith, lt, all)) read no_placing in
           record {
-            single = none_single e;
-            member = λ _. member_found alone way is all none_unlike inverting one;
-            partner = λ _ _. subst (λ v. IsLeast (AlikeToLater both v bit) (mentioned_count both) p)
+            member = member_found alone way is all none_unlike inverting one;
+            partner = λ _. subst (λ v. IsLeast (AlikeToLater both v bit) (mentioned_count both) p)
                 (sym (one.inside inside))
                 (partner_found alone way is inside own_row (rest ∙ ap (drop (member + 1)) is) long none_unlike inverted
                 two);

@@ -1,34 +1,32 @@
--- The first principals at which two lists differ, right by right.
+-- The first pair of principals at which two lists differ, right by right.
 use Rattle.acl_normal.proofs.Common.{[], all_mentioned, all_rights, arith, cases_eq, cases_lt, eq-eqb, everyone, false, has_bit, inl, inr, le-ltb, lt-ltb, may_overlap, ne_eqb, refl, subst, sym, true, TwoLists, ℕ, ◌+◌, ◌<◌, ◌∙◌, ◌∷◌, ◌≡◌, ◌≤◌, ◌⊎◌}
 use Rattle.std.proofs.lemmas.Bool.{cases_order}
 use Rattle.acl_normal.proofs.Each.{all_at}
-use Rattle.acl_normal.proofs.comparison.RowFacts.{Least, least_done, least_skip, least_start, least_step, same_alike, same_one, same_pairs}
+use Rattle.acl_normal.proofs.comparison.RowFacts.{Least, least_done, least_skip, least_start, least_step, same_alike, same_pairs}
 use Rattle.acl_normal.specs.internal.comparison.FirstPlaces.{IsLeast}
-use Rattle.acl_normal.specs.internal.comparison.FirstPrincipals.{AlikeToLater, AreLeast, IsFoundOnAll, IsFoundOn, IsNothing, mentioned_count, earlier_of, is_found_before}
+use Rattle.acl_normal.specs.internal.comparison.FirstPair.{AlikeToLater, AreLeast, IsFoundOnAll, IsFoundOn, IsNothing, mentioned_count, earlier_of, is_found_before}
 use Rattle.acl_normal.specs.internal.comparison.SetSearch.{AlikeAt}
-use Rattle.acl_normal.specs.internal.comparison.TwoLists.{AlikeToOne, AlikeToPairs, HaveSameColumn, principal_at}
-use Rattle.acl_normal.specs.declared.comparison.first_principals.FirstPrincipals.{FirstPrincipals}
+use Rattle.acl_normal.specs.internal.comparison.TwoLists.{AlikeToPairs, HaveSameColumn, principal_at}
+use Rattle.acl_normal.specs.declared.comparison.first_pair.FirstPair.{FirstPair}
 
 -- what is found on the rights so far
-abbrev pub IsFoundBelow : TwoLists → ℕ → FirstPrincipals → Type 0
+abbrev pub IsFoundBelow : TwoLists → ℕ → FirstPair → Type 0
 IsFoundBelow both bit = AreLeast both (λ Q. Least Q (mentioned_count both) bit)
 
 -- before the first right nothing is found
-pub nothing_found : {both : TwoLists} {f : FirstPrincipals} → IsNothing both f → IsFoundBelow both 0 f
+pub nothing_found : {both : TwoLists} {f : FirstPair} → IsNothing both f → IsFoundBelow both 0 f
 nothing_found {both} {f} h = record {
-  single = least_start (AlikeToOne both) (mentioned_count both) f.single h.single;
-  member = λ _. least_start (AlikeToPairs both) (mentioned_count both) f.member h.member;
-  partner = λ _ _. least_start (AlikeToLater both f.member) (mentioned_count both) f.partner h.partner;
+  member = least_start (AlikeToPairs both) (mentioned_count both) f.member h.member;
+  partner = λ _. least_start (AlikeToLater both f.member) (mentioned_count both) f.partner h.partner;
 }
 
 -- a right on which both lists have the same column changes nothing
-pub found_skip : {both : TwoLists} {bit : ℕ} {f : FirstPrincipals} → HaveSameColumn both bit → IsFoundBelow both bit f
+pub found_skip : {both : TwoLists} {bit : ℕ} {f : FirstPair} → HaveSameColumn both bit → IsFoundBelow both bit f
     → IsFoundBelow both (bit + 1) f
 found_skip {both} {bit} {f} same h = record {
-  single = least_skip (same_one both bit same) h.single;
-  member = λ e. least_skip (same_pairs both bit same) (h.member e);
-  partner = λ e l. least_skip
-      (λ k later o. same_alike both bit (principal_at both f.member ∷ principal_at both k ∷ []) same) (h.partner e l);
+  member = least_skip (same_pairs both bit same) h.member;
+  partner = λ l. least_skip
+      (λ k later o. same_alike both bit (principal_at both f.member ∷ principal_at both k ∷ []) same) (h.partner l);
 }
 
 -- the least number of one more right is the least, if it is not greater
@@ -54,11 +52,11 @@ agrees_later both at bit k lt h later o =
     lt h o
 
 -- the earlier of what is found on the rights so far and on one more is what is found on all of them
-pub found_more : {both : TwoLists} {bit : ℕ} {f g new : FirstPrincipals} → has_bit all_rights bit ≡ true
+pub found_more : {both : TwoLists} {bit : ℕ} {f g new : FirstPair} → has_bit all_rights bit ≡ true
     → new ≡ earlier_of f g
     → IsFoundBelow both bit f → IsFoundOn both bit g → IsFoundBelow both (bit + 1) new
 found_more {both} {bit} {f} {g} {new} has is h i =
-    by_single (cases_order g.single f.single)
+    by_member (cases_order g.member f.member)
   where
     n : ℕ
     n = mentioned_count both
@@ -69,51 +67,39 @@ found_more {both} {bit} {f} {g} {new} has is h i =
     is_f : is_found_before g f ≡ false → IsFoundBelow both (bit + 1) f → IsFoundBelow both (bit + 1) new
     is_f e found = subst (IsFoundBelow both (bit + 1)) (sym (is ∙ rw e refl)) found
 
-    by_partner : g.single ≡ f.single → g.member ≡ f.member → (g.partner < f.partner) ⊎ (f.partner ≤ g.partner)
+    by_partner : g.member ≡ f.member → (g.partner < f.partner) ⊎ (f.partner ≤ g.partner)
         → IsFoundBelow both (bit + 1) new
-    by_partner s m (inl less) =
+    by_partner m (inl less) =
         is_g (rw (
-          le-ltb g.single f.single (omega (arith, s)),
-          eq-eqb g.single f.single s,
           le-ltb g.member f.member (omega (arith, m)),
           eq-eqb g.member f.member m,
           lt-ltb g.partner f.partner less,
         ) refl) (record {
-          single = least_new (omega (arith, s)) has i.single h.single;
-          member = λ e. least_new (omega (arith, m)) has (i.member e) (h.member (sym s ∙ e));
-          partner = λ e l. least_new (omega (arith, less)) has (i.partner e l)
-              (subst (λ v. Least (AlikeToLater both v) n bit f.partner) (sym m)
-              (h.partner (sym s ∙ e) (omega (arith, l, m))));
+          member = least_new (omega (arith, m)) has i.member h.member;
+          partner = λ l. least_new (omega (arith, less)) has (i.partner l)
+              (subst (λ v. Least (AlikeToLater both v) n bit f.partner) (sym m) (h.partner (omega (arith, l, m))));
         })
-    by_partner s m (inr more) =
+    by_partner m (inr more) =
         is_f (rw (
-          le-ltb g.single f.single (omega (arith, s)),
-          eq-eqb g.single f.single s,
           le-ltb g.member f.member (omega (arith, m)),
           eq-eqb g.member f.member m,
           le-ltb g.partner f.partner more,
         ) refl) (record {
-          single = least_old (omega (arith, s)) i.single h.single;
-          member = λ e. least_old (omega (arith, m)) (i.member (s ∙ e)) (h.member e);
-          partner = λ e l. least_old more
+          member = least_old (omega (arith, m)) i.member h.member;
+          partner = λ l. least_old more
               (subst (λ v. IsLeast (AlikeToLater both v bit) n g.partner) m
-              (i.partner (s ∙ e) (omega (arith, l, m)))) (h.partner e l);
+              (i.partner (omega (arith, l, m)))) (h.partner l);
         })
 
-    by_member : g.single ≡ f.single → (g.member ≡ f.member) ⊎ ((g.member < f.member) ⊎ (f.member < g.member))
+    by_member : (g.member ≡ f.member) ⊎ ((g.member < f.member) ⊎ (f.member < g.member))
         → IsFoundBelow both (bit + 1) new
-    by_member s (inl m) = by_partner s m (cases_lt g.partner f.partner)
-    by_member s (inr (inl less)) =
-        is_g (rw (
-          le-ltb g.single f.single (omega (arith, s)),
-          eq-eqb g.single f.single s,
-          lt-ltb g.member f.member less,
-        ) refl) (record {
-          single = least_new (omega (arith, s)) has i.single h.single;
-          member = λ e. least_new (omega (arith, less)) has (i.member e) (h.member (sym s ∙ e));
-          partner = λ e l.
-              let own = i.partner e l in
-              let old = h.member (sym s ∙ e) in
+    by_member (inl m) = by_partner m (cases_lt g.partner f.partner)
+    by_member (inr (inl less)) =
+        is_g (rw (lt-ltb g.member f.member less) refl) (record {
+          member = least_new (omega (arith, less)) has i.member h.member;
+          partner = λ l.
+              let own = i.partner l in
+              let old = h.member in
               record {
                 within = own.within;
                 before = λ k lk b lb has_b. elim (cases_eq b bit) [
@@ -124,49 +110,24 @@ found_more {both} {bit} {f} {g} {new} has is h i =
                 at = λ lp all. own.at lp (all bit has);
               };
         })
-    by_member s (inr (inr more)) =
+    by_member (inr (inr more)) =
         is_f (rw (
-          le-ltb g.single f.single (omega (arith, s)),
-          eq-eqb g.single f.single s,
           le-ltb g.member f.member (omega (arith, more)),
           ne_eqb g.member f.member (λ e. omega (arith, e, more)),
         ) refl)
         (record {
-          single = least_old (omega (arith, s)) i.single h.single;
-          member = λ e. least_old (omega (arith, more)) (i.member (s ∙ e)) (h.member e);
-          partner = λ e l.
-              let old = h.partner e l in
+          member = least_old (omega (arith, more)) i.member h.member;
+          partner = λ l.
+              let old = h.partner l in
               least_step (AlikeToLater both f.member) n bit f.partner f.partner (omega arith)
-              (λ k lk. agrees_later both f.member bit k (omega (arith, lk, old.within))
-              ((i.member (s ∙ e)).before f.member more)) (λ lp. absurd (omega (arith, lp))) old;
-        })
-
-    by_single : (g.single ≡ f.single) ⊎ ((g.single < f.single) ⊎ (f.single < g.single))
-        → IsFoundBelow both (bit + 1) new
-    by_single (inl s) = by_member s (cases_order g.member f.member)
-    by_single (inr (inl less)) =
-        let within = h.single.within in
-        is_g (rw (lt-ltb g.single f.single less) refl) (record {
-          single = least_new (omega (arith, less)) has i.single h.single;
-          member = λ e. absurd (omega (arith, e, less, within));
-          partner = λ e l. absurd (omega (arith, e, less, within));
-        })
-    by_single (inr (inr more)) =
-        let within = i.single.within in
-        is_f (rw (
-          le-ltb g.single f.single (omega (arith, more)),
-          ne_eqb g.single f.single (λ e. omega (arith, e, more)),
-        ) refl) (record {
-          single = least_old (omega (arith, more)) i.single h.single;
-          member = λ e. absurd (omega (arith, e, more, within));
-          partner = λ e l. absurd (omega (arith, e, more, within));
+              (λ k lk. agrees_later both f.member bit k (omega (arith, lk, old.within)) (i.member.before f.member more))
+              (λ lp. absurd (omega (arith, lp))) old;
         })
 
 -- after the last right it is what is found on all rights
-pub found_done : {both : TwoLists} {bit : ℕ} {f : FirstPrincipals} → 21 ≤ bit → IsFoundBelow both bit f
+pub found_done : {both : TwoLists} {bit : ℕ} {f : FirstPair} → 21 ≤ bit → IsFoundBelow both bit f
     → IsFoundOnAll both f
 found_done {both} {bit} {f} le h = record {
-  single = least_done le h.single;
-  member = λ e. least_done le (h.member e);
-  partner = λ e l. least_done le (h.partner e l);
+  member = least_done le h.member;
+  partner = λ l. least_done le (h.partner l);
 }

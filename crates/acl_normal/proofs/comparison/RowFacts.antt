@@ -1,5 +1,5 @@
 -- The least number of a principal at which two lists do not grant the same, bit by bit.
-use Rattle.acl_normal.proofs.Common.{[], Ace, AgreesAt, all_mentioned, all_rights, AllZip, ap, AreFirstFrom, ArePlacings, arith, cases_eq, cases_lt, everyone, false, get_or_read, has_bit, inl, inr, is_allow, is_among, is_granted_to, is_user, is_users, IsPlacing, length, length-map, List, map-append, no_placing, Principal, principal, principals, refl, slice_index_or, Placing, subst, sym, take, take_more, true, TwoLists, verdict, ℕ, ◌++◌, ◌+◌, ◌<◌, ◌∙◌, ◌∷◌, ◌≡◌, ◌≤◌, ◌⊎◌}
+use Rattle.acl_normal.proofs.Common.{[], Ace, AgreesAt, all_mentioned, all_rights, AllZip, ap, AreFirstFrom, ArePlacings, arith, cases_eq, cases_lt, everyone, get_or_read, has_bit, inl, inr, is_allow, is_among, is_granted_to, is_user, is_users, IsPlacing, length, length-map, List, map-append, no_placing, Principal, principal, principals, refl, slice_index_or, Placing, subst, sym, take, take_more, true, TwoLists, verdict, ℕ, ◌++◌, ◌+◌, ◌<◌, ◌∙◌, ◌∷◌, ◌≡◌, ◌≤◌, ◌⊎◌}
 use Rattle.acl_perm.specs.declared.principal.Principal.{Principal as PrincipalRef}
 use Rattle.acl_normal.proofs.Each.{zip_at, zip_length, zip_push}
 use Rattle.acl_normal.proofs.unique.Bits.{below}
@@ -7,7 +7,7 @@ use Rattle.acl_normal.proofs.comparison.Directions.{both_differ, differ_moved, n
 use Rattle.acl_normal.proofs.comparison.Numbers.{principal_numbered}
 use Rattle.acl_normal.specs.internal.comparison.FirstPlaces.{AlikeAlone, IsFirst, IsFirstFrom, IsLeast, OnAll, is_unlike, no_first}
 use Rattle.acl_normal.specs.internal.comparison.SetSearch.{AlikeAt}
-use Rattle.acl_normal.specs.internal.comparison.TwoLists.{AlikeToOne, AlikeToPairs, HaveSameColumn, principal_at}
+use Rattle.acl_normal.specs.internal.comparison.TwoLists.{AlikeToPairs, HaveSameColumn, principal_at}
 use Rattle.acl_normal.specs.declared.comparison.direction.Direction.{Direction}
 use Rattle.acl_normal.specs.declared.principal_class.Class.{Class}
 use Rattle.acl_normal.specs.declared.comparison.placing.First.{First}
@@ -95,13 +95,6 @@ pub least_done : {Q : ℕ → ℕ → Type 0} {n bit least : ℕ} → 21 ≤ bit
 least_done le h =
     record { within = h.within; before = λ k l b has. h.before k l b (omega (arith, below b has)) has; at = h.at }
 
--- the lists do not differ for a principal alone if its placing is not unlike
-pub alone_from_row : (way : Direction) (ps : List Principal) (xs ys : List Ace) (b k : ℕ) (rows : List Placing)
-    → k < length ps → ArePlacings ps xs ys b rows → is_unlike way (slice_index_or rows k no_placing) ≡ false
-    → AlikeAlone way xs ys ps b k
-alone_from_row way ps xs ys b k rows lt h e = let r = row_at ps xs ys b k rows lt h.each in
-    differ_moved way (sym r.here.allows) (sym r.there.allows) e
-
 -- the lists differ for a principal alone if its placing is unlike
 pub not_alone_from_row : (way : Direction) (ps : List Principal) (xs ys : List Ace) (b k : ℕ) (rows : List Placing)
     → k < length ps → ArePlacings ps xs ys b rows → is_unlike way (slice_index_or rows k no_placing) ≡ true
@@ -124,10 +117,6 @@ same_agree : (both : TwoLists) (bit : ℕ) (p : Principal) (ps : List Principal)
 same_agree both bit p [] h = tt
 same_agree both bit p (q ∷ ps) h =
     (λ _. same_alike both bit (p ∷ q ∷ []) h, same_agree both bit p ps h)
-
--- lists with the same column at a bit grant it alike to each principal alone
-pub same_one : (both : TwoLists) (bit : ℕ) → HaveSameColumn both bit → (k : ℕ) → AlikeToOne both bit k
-same_one both bit h k = same_alike both bit (principal_at both k ∷ []) h
 
 -- lists with the same column at a bit grant it alike to each principal with all
 pub same_pairs : (both : TwoLists) (bit : ℕ) → HaveSameColumn both bit → (k : ℕ) → AlikeToPairs both bit k

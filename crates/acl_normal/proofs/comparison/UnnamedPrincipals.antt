@@ -36,23 +36,6 @@ behind : (t s e x y k g h : Bool) → g ≡ h → (t ≡ true → (s && (e || (y
 behind true s e x y k g h i l = grind (arith, i, l refl)
 behind false s e x y k g h i l = i
 
--- the same where it is the only principal
-alone_behind : (t s e y k g h : Bool) → g ≡ h → (t ≡ true → (s && (e || (y || false))) ≡ (s && e))
-    → cond ((t && s) && (e || (y || false))) k g ≡ cond ((t && s) && (e || false)) k h
-alone_behind true s e y k g h i l = grind (arith, i, l refl)
-alone_behind false s e y k g h i l = i
-
--- a principal whom no ACE with the right names is granted what nobody is granted
-pub unnamed_alone : (list : List Ace) (bit : ℕ) (p : Principal) → IsUnnamed list bit p
-    → is_granted_to list (p ∷ []) bit ≡ is_granted_to list [] bit
-unnamed_alone [] bit p h = refl
-unnamed_alone (a ∷ list) bit p h =
-    granted_to-cons a list (p ∷ []) bit
-    ∙ alone_behind (has_bit a.mask bit) (takes_part a) (principal_eq (principal_of a) everyone)
-    (principal_eq (principal_of a) p) (is_allow a.kind) (is_granted_to list (p ∷ []) bit) (is_granted_to list [] bit)
-    (unnamed_alone list bit p (record { each = h.each.1 })) h.each.0
-    ∙ sym (granted_to-cons a list [] bit)
-
 -- with such a principal, another is granted what it is granted alone
 pub unnamed_pair : (list : List Ace) (bit : ℕ) (p q : Principal) → IsUnnamed list bit q
     → is_granted_to list (p ∷ q ∷ []) bit ≡ is_granted_to list (p ∷ []) bit

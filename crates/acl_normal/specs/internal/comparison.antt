@@ -4,14 +4,16 @@
 pub mod CodeSets
 -- the ACEs of two lists that have one right, and the principals that they name
 pub mod Columns
+-- what a list grants to each principal alone
+pub mod GrantedAlone
 -- how the fields of a comparison relate to the two lists
 pub mod ListPair
 -- the directions in which two lists are compared
 pub mod Directions
 -- where two lists first mention each principal, and what they say there
 pub mod FirstPlaces
--- the first principals at which two lists differ, alone or in pairs
-pub mod FirstPrincipals
+-- the first pair of principals at which two lists differ
+pub mod FirstPair
 -- sets of principals by their numbers
 pub mod Members
 -- the principals that lists mention, by row and by number

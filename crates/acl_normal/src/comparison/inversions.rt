@@ -1,7 +1,7 @@
 //! The search for principals that two lists name in opposite orders. Tables save a test of each pair of principals.
 ghost use Rattle.std.specs.Prelude.{◌&&◌, ◌+◌, ◌<◌, ◌≡◌, ◌≤◌};
 ghost use Rattle.acl_normal.specs.Common.{AllByRecursion, IfOk, is_users, length, not, true, vec_len};
-ghost use Rattle.acl_normal.specs.internal.comparison.FirstPlaces.{IsFirstBelow, SameAlone, earlier_allows, inverts, inverts_any, is_unlike};
+ghost use Rattle.acl_normal.specs.internal.comparison.FirstPlaces.{IsFirstBelow, SameAlone, earlier_allows, inverts, inverts_any};
 ghost use Rattle.acl_normal.specs.internal.comparison.PlaceTables.{IsDeniedTable, IsPlacingWithin, IsFirstOf, IsPlaceTable, Raises, has_kind, is_inverting, is_selected, other_place, place_of, wants};
 ghost use Rattle.acl_normal.specs.internal.Limits.{slice_limit};
 
@@ -10,22 +10,6 @@ use super::placing::{First, Placing};
 use crate::principal_class::Class;
 use acl_perm::Kind;
 use std::alloc::{AllocError, Global};
-
-/// Returns the number of the first principal, below a limit, for whom alone the lists differ in the direction, or the
-/// limit.
-#[tactic(auto, using(crate::proofs::comparison::FirstInverting::first_below))]
-pub(crate) fn first_unlike(direction: Direction, placings: &[Placing], limit: usize) -> usize
-    requires { limit ≤ length placings.now }
-    ensures { IsFirstBelow (is_unlike direction) placings.now limit result }
-{
-    let (near, _) = placings.split_at(limit);
-    for (k, placing) in near.iter().enumerate() {
-        if placing.is_unlike(direction) {
-            return k;
-        }
-    }
-    limit
-}
 
 /// Returns the number of the first principal, below a limit, that comes before another in one list and not in the
 /// other, so that the lists differ in the direction for both together; or the limit. There is one search for each

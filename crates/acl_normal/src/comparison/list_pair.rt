@@ -3,13 +3,14 @@
 ghost use Rattle.std.specs.Prelude.{◌<◌, ◌≡◌};
 ghost use Rattle.acl_normal.specs.Common.{AllByRecursion, AreAlikeTo, AreMentioned, AreNumbered, IfOk, IsGrantedTo, OnFalse, OnTrue, [], aces_in, all_mentioned, has_bit, length, map, members_of, principal, principals, set_of, two_lists, ℕ};
 ghost use Rattle.acl_normal.specs.internal.comparison.Directions.{differ_in};
-ghost use Rattle.acl_normal.specs.internal.comparison.TwoLists.{principal_at};
+ghost use Rattle.acl_normal.specs.internal.comparison.TwoLists.{IsFirstSingle, principal_at};
 ghost use Rattle.acl_normal.specs.internal.comparison.Columns.{AreColumnsOf, AreRightsByNumber};
 
 use super::columns::{Columns, Numbers, add_rights, column_of, numbers_with};
 use super::differing_rights::rights_apart;
 use super::direction::Direction;
 use super::evaluation::granted_to;
+use super::granted_alone::GrantedAlone;
 use super::members::Members;
 use super::mentioned_principals::Mentions;
 use super::placing::Whom;
@@ -113,6 +114,22 @@ impl<'a, 'b> ListPair<'a, 'b> {
         )
         .bits()
             == 0
+    }
+
+    /// Returns the number of the first principal for whom alone the lists differ in the direction, on any right, or the
+    /// number of all principals if there is none.
+    pub(crate) fn first_single(&self, alloc: Global) -> Result<usize, AllocError>
+        ensures { IfOk result (IsFirstSingle self.now) }
+    {
+        let count = self.count();
+        let here = GrantedAlone::of(alloc, self.first, self.first_whoms, count)?;
+        let there = GrantedAlone::of(alloc, self.second, self.second_whoms, count)?;
+        for number in 0..count {
+            if self.differing(here.to(number), there.to(number)).bits() != 0 {
+                return Ok(number);
+            }
+        }
+        Ok(count)
     }
 
     /// Returns the rights on which the answers of the lists differ in the direction, given the rights that each grants.

@@ -2,9 +2,8 @@
 ghost use Rattle.std.specs.Prelude.{◌<◌, ◌≡◌, ◌≤◌};
 ghost use Rattle.acl_normal.specs.Common.{ace, aces_in, AreWhoms, false, IfOk, length, principals, slice_index_or, true, vec_len, ℕ};
 ghost use Rattle.acl_perm.specs.Kind.{is_allow};
-ghost use Rattle.acl_normal.specs.internal.comparison.FirstPlaces.{AreFirstFrom, IsWhomWithin, is_unlike, no_ace, put, same_whom, stops_at};
+ghost use Rattle.acl_normal.specs.internal.comparison.FirstPlaces.{AreFirstFrom, IsWhomWithin, no_ace, put, same_whom, stops_at};
 
-use super::direction::Direction;
 use crate::principal_class::Class;
 use acl_nfs4::AceRef;
 use acl_perm::internal::Bit;
@@ -34,15 +33,6 @@ pub struct Placing {
     pub here: First,
     pub there: First,
     pub class: Class,
-}
-
-impl Placing {
-    /// Returns whether the answers of the lists for the principal alone differ in the direction.
-    pub(crate) fn is_unlike(self, direction: Direction) -> bool
-        ensures { result ≡ is_unlike direction self }
-    {
-        direction.differ(self.here.allows(), self.there.allows())
-    }
 }
 
 /// Whom an ACE names: nobody if it takes no part, one of the mentioned principals by its number, or everyone.

@@ -1,13 +1,13 @@
 //! The search for the first small set at which two lists differ in a direction. A test of each pair of principals would
 //! take time that grows with the square of their number, so the search finds one principal of the pair first, and then
-//! the other.
+//! the other. Principals alone come before pairs, and are tested for all rights at once.
 ghost use Rattle.std.specs.Prelude.{◌≡◌};
-ghost use Rattle.acl_normal.specs.Common.{[], all_mentioned, all_rights, AreAlikeTo, AreNumbered, FindSet, has_bit, IfOk, IfSome, members_or_none, true};
+ghost use Rattle.acl_normal.specs.Common.{all_mentioned, all_rights, AreNumbered, FindSet, has_bit, IfOk, IfSome, members_or_none, true};
 ghost use Rattle.acl_normal.specs.internal.comparison.Columns.{AreRightsByNumber};
-ghost use Rattle.acl_normal.specs.internal.comparison.FirstPrincipals.{IsFoundOnAll, IsFoundOn, IsNothing};
+ghost use Rattle.acl_normal.specs.internal.comparison.FirstPair.{AreAlikeAlone, IsFoundOnAll, IsFoundOn, IsNothing};
 
-use super::first_principals::FirstPrincipals;
-use super::inversions::{first_inverted, first_inverting, first_unlike};
+use super::first_pair::FirstPair;
+use super::inversions::{first_inverted, first_inverting};
 use super::list_pair::ListPair;
 use super::members::Members;
 use acl_perm::Mask;
@@ -26,19 +26,20 @@ impl ListPair<'_, '_> {
         if !self.grant_strangers_alike() {
             return Ok(Some(Members::Nobody));
         }
-        let found = self.found(alloc)?;
-        if found.single < self.count() {
-            return Ok(Some(Members::One(found.single)));
+        let single = self.first_single(alloc)?;
+        if single < self.count() {
+            return Ok(Some(Members::One(single)));
         }
+        let found = self.found(alloc)?;
         if found.member == self.count() {
             return Ok(None);
         }
         Ok(Some(Members::Two(found.member, found.partner)))
     }
 
-    // The first principals at which the lists differ on any right.
-    fn found(&self, alloc: Global) -> Result<FirstPrincipals, AllocError>
-        requires { AreAlikeTo self.now [] }
+    // The first pair for which the lists differ on any right.
+    fn found(&self, alloc: Global) -> Result<FirstPair, AllocError>
+        requires { AreAlikeAlone self.now }
         ensures { IfOk result (IsFoundOnAll self.now) }
     {
         let rights = self.rights_by_number(alloc)?;
@@ -55,25 +56,19 @@ impl ListPair<'_, '_> {
         Ok(found)
     }
 
-    fn nothing(&self) -> FirstPrincipals
+    fn nothing(&self) -> FirstPair
         ensures { IsNothing self.now result }
     {
         let count = self.count();
-        FirstPrincipals {
-            single: count,
+        FirstPair {
             member: count,
             partner: count,
         }
     }
 
-    // The first principals at which the lists differ on a right. `rights` has the rights of each principal.
-    fn found_on(
-        &self,
-        alloc: Global,
-        right: Bit,
-        rights: &[Mask],
-    ) -> Result<FirstPrincipals, AllocError>
-        requires strangers { AreAlikeTo self.now [] }
+    // The first pair for which the lists differ on a right. `rights` has the rights of each principal.
+    fn found_on(&self, alloc: Global, right: Bit, rights: &[Mask]) -> Result<FirstPair, AllocError>
+        requires alone { AreAlikeAlone self.now }
         requires right { has_bit all_rights right.bit ≡ true }
         requires rights { AreRightsByNumber self.now rights.now }
         ensures { IfOk result (IsFoundOn self.now right.bit) }
@@ -81,23 +76,14 @@ impl ListPair<'_, '_> {
         let columns = self.columns(alloc, right, rights)?;
         let placings = columns.placings(alloc, right)?;
         let end = placings.len();
-        let count = self.count();
-        let single = first_unlike(self.direction, &placings, end);
-        if single < end {
-            return Ok(FirstPrincipals {
-                single: columns.number(single, count),
-                member: count,
-                partner: count,
-            });
-        }
         let member = first_inverting(alloc, self.direction, &placings, columns.longer(), end)?;
         if member == end {
             return Ok(self.nothing());
         }
         let (_, others) = placings.as_slice().split_at(member + 1);
         let partner = first_inverted(self.direction, placings[member], others, others.len());
-        Ok(FirstPrincipals {
-            single: count,
+        let count = self.count();
+        Ok(FirstPair {
             member: columns.number(member, count),
             partner: columns.number(member + 1 + partner, count),
         })

@@ -23,7 +23,7 @@ pub type Expected = (
 );
 
 // Pairs of lists, and the first small situation in which they differ.
-static PAIRS: [(&[AceRow], &[AceRow], Option<Expected>); 15] = [
+static PAIRS: [(&[AceRow], &[AceRow], Option<Expected>); 18] = [
     (
         &[
             (DENY, 0, READ_DATA, b"bob"),
@@ -170,6 +170,43 @@ static PAIRS: [(&[AceRow], &[AceRow], Option<Expected>); 15] = [
             (DENY, GROUP, WRITE_DATA, b"ops"),
         ],
         Some((b"oooo", b"gggg", b"bob", &[b"ops"], WRITE_DATA, false)),
+    ),
+    // One right less, on which two principals differ together, but neither does alone.
+    (
+        &[
+            (DENY, 0, READ_DATA | WRITE_DATA, b"bob"),
+            (ALLOW, GROUP, READ_DATA | WRITE_DATA, b"staff"),
+        ],
+        &[
+            (DENY, 0, READ_DATA, b"bob"),
+            (ALLOW, GROUP, READ_DATA | WRITE_DATA, b"staff"),
+        ],
+        Some((b"oooooo", b"gggggg", b"bob", &[b"staff"], WRITE_DATA, false)),
+    ),
+    // An ACE of everyone decides before one of a user, and another one after it.
+    (
+        &[
+            (ALLOW, 0, READ_DATA, b"EVERYONE@"),
+            (DENY, 0, READ_DATA | WRITE_DATA, b"bob"),
+            (ALLOW, 0, WRITE_DATA, b"EVERYONE@"),
+        ],
+        &[(ALLOW, 0, READ_DATA | WRITE_DATA, b"EVERYONE@")],
+        Some((b"oooo", b"gggg", b"bob", &[], WRITE_DATA, false)),
+    ),
+    // One more ACE in the middle and one right less after it, of which nothing is seen.
+    (
+        &[
+            (ALLOW, GROUP, READ_DATA, b"ops"),
+            (ALLOW, 0, READ_DATA, b"EVERYONE@"),
+            (DENY, 0, READ_DATA | EXECUTE, b"bob"),
+        ],
+        &[
+            (ALLOW, GROUP, READ_DATA, b"ops"),
+            (ALLOW, 0, READ_DATA, b"amy"),
+            (ALLOW, 0, READ_DATA, b"EVERYONE@"),
+            (DENY, 0, EXECUTE, b"bob"),
+        ],
+        None,
     ),
     (&[], &[], None),
 ];

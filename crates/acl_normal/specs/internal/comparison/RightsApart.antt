@@ -1,5 +1,5 @@
 -- The rights on which two lists may differ (this library's own).
-use Rattle.std.specs.Prelude.{◌≡◌, ℕ, Bool, false, not, ◌&&◌, ◌==◌, List}
+use Rattle.std.specs.Prelude.{◌≡◌, ℕ, Bool, false, not, ◌&&◌, List}
 use Rattle.acl_eval.specs.Column.{column}
 use Rattle.acl_nfs4.specs.Ace.{Ace}
 use Rattle.acl_normal.specs.internal.comparison.FirstPlaces.{names_any, same_whom}
@@ -16,6 +16,6 @@ pub record AreApart (list other : List Ace) (mask : ℕ) : Type 0 where
 pub record HasOpenBits (a : Ace) (w : Whom) (apart mask : ℕ) : Type 0 where
   pub bits : (bit : ℕ) → has_bit mask bit ≡ ((has_bit a.mask bit && names_any w) && not (has_bit apart bit))
 
--- two ACEs allow the same rights to the same, or deny them
-abbrev pub say_the_same : Statement → Statement → Bool
-say_the_same s t = ((s.rights.bits == t.rights.bits) && kind_eq s.kind t.kind) && same_whom s.whom t.whom
+-- two ACEs name the same, and both allow or both deny
+abbrev pub have_same_key : Statement → Statement → Bool
+have_same_key s t = kind_eq s.kind t.kind && same_whom s.whom t.whom

@@ -2,7 +2,7 @@ use Rattle.acl_normal.proofs.comparison.FoundSoFar.{found_done, found_more, foun
 use Rattle.acl_normal.proofs.comparison.list_pair.ListPair.found.Goals as goal
 use Rattle.acl_normal.proofs.comparison.list_pair.ListPair.found.Goals.{then-is_in+in_ok-next+else-is_before, then-is_in+in_ok-next+then-is_before, else-is_in}
 use Rattle.acl_normal.proofs.Common.{bits_from_mask, refl, subst, sym, ◌∙◌, ◌≡◌}
-use Rattle.acl_normal.specs.internal.comparison.FirstPrincipals.{earlier_of}
+use Rattle.acl_normal.specs.internal.comparison.FirstPair.{earlier_of}
 use Rattle.acl_normal.specs.internal.comparison.TwoLists.{HaveSameColumn}
 
 pub loop-bit-init : goal.loop-bit-init
