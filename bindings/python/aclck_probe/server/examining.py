@@ -176,8 +176,8 @@ class Examination:
                 left_out += 1
             elif answer != said_by_list:
                 mismatch = Mismatch(meaning.word, answer, requester.user == place.owner, granted)
-                differences.append(Difference(place.is_directory, acl, asker, meaning.word, *_words(said_by_list, answer),
-                                              rule_of(mismatch)))
+                differences.append(Difference(place.is_directory, acl, asker, meaning.word,
+                                              *_words(said_by_list, answer), rule_of(mismatch)))
         tally.count(differences, left_out, len(found))
 
     def _compared(self, tally: Tally, is_directory: bool, acl: NfsAcl, found: Mismatch, is_later: bool = False) -> None:

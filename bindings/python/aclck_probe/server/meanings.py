@@ -1,5 +1,5 @@
-"""What the answers of a server mean in rights of a list (RFC 7530 and RFC 8881, section 6.2.1.3; ACCESS: section 16.1 of
-the one, and section 18.1 of the other). What the standard leaves to servers, no list decides."""
+"""What the answers of a server mean in rights of a list (RFC 7530 and RFC 8881, section 6.2.1.3; ACCESS: section 16.1
+of the one, and section 18.1 of the other). What the standard leaves to servers, no list decides."""
 
 from __future__ import annotations
 

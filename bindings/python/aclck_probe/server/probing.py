@@ -21,8 +21,8 @@ from .session import Session
 
 
 def address_of(text: str, port: int) -> Address:
-    """Returns the address of a text `HOST:/EXPORT`, in which an address of IPv6 is between brackets. Raises UsageError if
-    it is none."""
+    """Returns the address of a text `HOST:/EXPORT`, in which an address of IPv6 is between brackets. Raises UsageError
+    if it is none."""
     host, colon, export = text.partition(":/")
     if host.startswith("[") and host.endswith("]"):
         host = host[1:-1]

@@ -101,7 +101,8 @@ class Scratch:
             handle = self.new(self.inner, name, is_directory)
         with said("the owner of a new object"):
             if self._maker.user == _ROOT:
-                self.set(handle, {nfs.OWNER: opaque(b"%d" % people.owner), nfs.OWNER_GROUP: opaque(b"%d" % people.group)})
+                self.set(handle, {nfs.OWNER: opaque(b"%d" % people.owner),
+                                  nfs.OWNER_GROUP: opaque(b"%d" % people.group)})
             _, *found = self.session.make(nfs.put_handle(handle), nfs.GET_OWNER, nfs.GET_GROUP)
         owner, group = map(_id_of, found)
         if owner != (self._maker.user or people.owner):

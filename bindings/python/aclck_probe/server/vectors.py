@@ -91,8 +91,8 @@ def modes() -> List[Tuple[NfsAcl, int]]:
         return _list((ALLOW, NO_FLAGS, owner, "OWNER@"), (ALLOW, NO_FLAGS, group, "GROUP@"),
                      (ALLOW, NO_FLAGS, others, "EVERYONE@"))
     return [(plain(READ_DATA | _WRITE, READ_DATA, READ_DATA), 0o700), (plain(_READ_ALL, EXECUTE, 0), 0o640),
-            (plain(ALL, ALL, ALL), 0o604), (_list((DENY, NO_FLAGS, _WRITE, "OWNER@"), (ALLOW, NO_FLAGS, ALL, "EVERYONE@")),
-                                            0o400)]
+            (plain(ALL, ALL, ALL), 0o604),
+            (_list((DENY, NO_FLAGS, _WRITE, "OWNER@"), (ALLOW, NO_FLAGS, ALL, "EVERYONE@")), 0o400)]
 
 
 MODES = (0o640, 0o604, 0o751, 0o067, 0o000, 0o777)
