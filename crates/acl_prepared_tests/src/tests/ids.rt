@@ -1,6 +1,7 @@
 //! Lists whose users and groups are ids: what such a list decides is by RFC 8881, section 6.2.1, and which names have
 //! an id is this library's own.
 
+use Answer::{Allowed, Denied, Neither};
 use acl_ids::IdsFault;
 use acl_lists_for_tests::{ALLOW, DENY, built, passes};
 use acl_nfs4::PushFault;
@@ -27,32 +28,40 @@ fn table(alloc: Global) -> Result<Names, PushFault> {
     Ok(names)
 }
 
-// Whether an ACE with READ_DATA allows, its flags and its who, and whether the right is allowed, denied, or neither (1,
-// 2, 0). The object is of the user 1 and the group 30. The requester is the user 7, first in the groups 10, 20, 30 and
-// so on up to 170, and then in the first two of them alone.
-static WHOS: [(bool, u32, &str, u32, u32); 14] = [
-    (true, 0, "bob", 1, 1),
-    (true, GROUP, "bob", 0, 0),
-    (false, 0, "7", 2, 2),
-    (true, 0, "8", 0, 0),
-    (true, GROUP, "7", 0, 0),
-    (true, GROUP, "10", 1, 1),
-    (false, GROUP, "20", 2, 2),
-    (true, GROUP, "170", 1, 0),
-    (true, GROUP, "175", 0, 0),
-    (true, 0, "OWNER@", 0, 0),
-    (true, 0, "GROUP@", 1, 0),
-    (true, 0, "EVERYONE@", 1, 1),
-    (true, INHERIT_ONLY, "7", 0, 0),
-    (true, 0, "4294967294", 0, 0),
+// What a list decides about one right.
+#[derive(Clone, Copy, Debug, PartialEq, Eq)]
+enum Answer {
+    Allowed,
+    Denied,
+    Neither,
+}
+
+// Whether an ACE with READ_DATA allows, its flags and its who, and what it decides about the right. The object is of the
+// user 1 and the group 30. The requester is the user 7, first in the groups 10, 20, 30 and so on up to 170, and then in
+// the first two of them alone.
+static WHOS: [(bool, u32, &str, Answer, Answer); 14] = [
+    (true, 0, "bob", Allowed, Allowed),
+    (true, GROUP, "bob", Neither, Neither),
+    (false, 0, "7", Denied, Denied),
+    (true, 0, "8", Neither, Neither),
+    (true, GROUP, "7", Neither, Neither),
+    (true, GROUP, "10", Allowed, Allowed),
+    (false, GROUP, "20", Denied, Denied),
+    (true, GROUP, "170", Allowed, Neither),
+    (true, GROUP, "175", Neither, Neither),
+    (true, 0, "OWNER@", Neither, Neither),
+    (true, 0, "GROUP@", Allowed, Neither),
+    (true, 0, "EVERYONE@", Allowed, Allowed),
+    (true, INHERIT_ONLY, "7", Neither, Neither),
+    (true, 0, "4294967294", Neither, Neither),
 ];
 
 static GROUPS: [u32; 17] = [
     10, 20, 30, 40, 50, 60, 70, 80, 90, 100, 110, 120, 130, 140, 150, 160, 170,
 ];
 
-// Returns whether READ_DATA is allowed, denied, or neither.
-fn decided(bytes: &[u8], groups: &[u32]) -> Option<u32> {
+// Returns what is decided about READ_DATA, or `None` if the bytes are no prepared list.
+fn decided(bytes: &[u8], groups: &[u32]) -> Option<Answer> {
     let prepared = PreparedIds::read(bytes)?;
     let object = IdObject {
         owner: 1,
@@ -61,11 +70,11 @@ fn decided(bytes: &[u8], groups: &[u32]) -> Option<u32> {
     let requester = IdRequester::new(7, groups)?;
     let rights = prepared.decided(object, &requester, Mask::READ_DATA)?;
     Some(if rights.allowed == Mask::READ_DATA {
-        1
+        Allowed
     } else if rights.denied == Mask::READ_DATA {
-        2
+        Denied
     } else {
-        0
+        Neither
     })
 }
 
