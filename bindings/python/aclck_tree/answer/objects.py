@@ -88,8 +88,8 @@ class ObjectsQuestion:
 
     def _keys(self, obtaining: Obtaining,
               bases: Dict[Tuple[int, int], Basis]) -> Iterator[Tuple[Tuple[int, int], int, bytes]]:
-        """Yields of each object what is equal for all about which the same is answered, its tree and its path. Keeps the
-        basis of the first object for each key."""
+        """Yields of each object what is equal for all about which the same is answered, its tree and its path. Keeps
+        the basis of the first object for each key."""
         alike, has = self.alike, None if self.glob is None else Paths(self.asker.snapshot, self.glob).has
         for tree, path, _, _, face, place in obtaining.objects():
             if has is None or has(tree, path):

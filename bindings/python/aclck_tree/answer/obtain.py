@@ -40,8 +40,8 @@ class Place:
     `above` is the directory that has them. `/` has none, and neither has an object whose directory the snapshot lacks.
     `face` is that of one of the objects. It is None if the owner, the group and the list are not known, and so is
     `is_sticky` for a directory above the root of a tree. The answers say who gets past the directories above by their
-    lists (`passed`), who could get past them (`reached`), who could set the list (`controls`), and who could put another
-    object at the path (`taken`). Places with the same answers have the same `number`.
+    lists (`passed`), who could get past them (`reached`), who could set the list (`controls`), and who could put
+    another object at the path (`taken`). Places with the same answers have the same `number`.
     """
 
     above: Optional[Place]
@@ -289,4 +289,5 @@ class Obtaining:
             taken = asker.either(asker.either(above.taken, above.controls), asker.both(reached, replacers))
         controls = asker.both(reached, rights.setters(face))
         answers = passed, reached, controls, taken
-        return Place(above, face, is_directory, is_sticky, *answers, self._numbers.setdefault(answers, len(self._numbers)))
+        number = self._numbers.setdefault(answers, len(self._numbers))
+        return Place(above, face, is_directory, is_sticky, *answers, number)

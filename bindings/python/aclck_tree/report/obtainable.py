@@ -44,8 +44,8 @@ class Obtainable:
 
     def objects(self) -> Iterator[Tuple[int, bytes, Changers, Tuple[bool, int, int, Optional[Answers]]]]:
         """Yields of each object, in the order of `Snapshot.objects`, the tree, the path below its root, who could come
-        to write to it, and whether it is a directory (1 or 0), the special bits of its mode, its face, and who gets past
-        the directories above by their lists, if that is asked."""
+        to write to it, and whether it is a directory (1 or 0), the special bits of its mode, its face, and who gets
+        past the directories above by their lists, if that is asked."""
         alike, is_reach = self._question.alike, self._is_reach
         for tree, path, is_directory, bits, face, place in self._obtaining.objects():
             key = place.number, alike[face]

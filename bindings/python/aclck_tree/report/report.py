@@ -40,8 +40,8 @@ class Places:
 
 
 class _Kind:
-    """Objects about which the same was found, in `places`, and how many they are. `unnamed` are those of the places that
-    still take names."""
+    """Objects about which the same was found, in `places`, and how many they are. `unnamed` are those of the places
+    that still take names."""
 
     def __init__(self, is_folder: bool, places: List[Places]) -> None:
         self.is_folder = is_folder
