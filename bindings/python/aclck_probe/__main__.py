@@ -68,11 +68,11 @@ def parser_of() -> argparse.ArgumentParser:
     parser.add_argument("--form", choices=(*NFS, *POSIX), metavar="FORM", help="with --questions: the form, else xdr")
     add_kinds(parser)
     add_accounts(parser)
-    parser.add_argument("--server", metavar="HOST:/EXPORT", help="ask a server of NFSv4 about lists of this program, in "
-                        "a new directory of the export, which is removed at the end")
+    parser.add_argument("--server", metavar="HOST:/EXPORT", help="ask a server of NFSv4 about lists of this program, "
+                        "in a new directory of the export, which is removed at the end")
     parser.add_argument("--port", metavar="PORT", type=_port, help=f"the port of the server, else {_PORT}")
-    parser.add_argument("--try", dest="scratch", metavar="DIRECTORY", nargs="?", const="", help="also try operations, on "
-                        "copies in a new directory that is made here, and removed at the end")
+    parser.add_argument("--try", dest="scratch", metavar="DIRECTORY", nargs="?", const="", help="also try operations, "
+                        "on copies in a new directory that is made here, and removed at the end")
     parser.add_argument("--attribute", metavar="NAME", help="read NFSv4 lists from this attribute alone")
     parser.add_argument("--most", metavar="COUNT", type=_number, default=_MOST,
                         help=f"how many questions one list may have, else {_MOST}")
