@@ -9,37 +9,15 @@ from dataclasses import dataclass
 from enum import Enum
 from typing import AbstractSet, Dict, List, NamedTuple, Optional, Sequence, Tuple, Union
 
-from aclck import (
-    APPEND_DATA,
-    EXECUTE,
-    READ_DATA,
-    WRITE_DATA,
-    NfsAcl,
-    Possible,
-    Refused,
-    Request,
-    Requesters,
-    mask_text,
-    read_mask,
-)
-from aclck.entries import PERMISSIONS, perm_of
+from aclck import NfsAcl, Possible, Refused, Request, Requesters
 
 from aclck_tree.answer.bits import bits_of, chosen
 from aclck_tree.answer.classes import Classes, everybody
 from aclck_tree.answer.identities import Identities, Identity, Ways, account_name, full_name
-from aclck_tree.answer.lists import (
-    POSIX_MASKS,
-    AskableList,
-    Kind,
-    Ready,
-    RefusedList,
-    decoded,
-    has_empty_mask,
-    nfs_bytes,
-    ready,
-)
+from aclck_tree.answer.lists import AskableList, Kind, Ready, RefusedList, decoded, has_empty_mask, nfs_bytes, ready
 from aclck_tree.answer.posix import at_once
-from aclck_tree.output.errors import TreeError, UsageError
+from aclck_tree.answer.wants import Want, put_to
+from aclck_tree.output.errors import TreeError
 from aclck_tree.people.people import Person
 from aclck_tree.snapshot.snapshot import Face, Snapshot, StoredForm, StoredList
 
@@ -71,40 +49,6 @@ class Answers:
     def of(self, place: int) -> Answer:
         """Returns the answer for the person at a place."""
         return GRANTED if self.granted >> place & 1 else DENIED if self.denied >> place & 1 else UNKNOWN
-
-
-class Want(NamedTuple):
-    """What is asked for: rights of NFSv4 lists, and permissions of POSIX ACLs, or the reason why these have none."""
-
-    text: str
-    mask: int
-    perms: int
-    missing: int
-    any: bool
-
-    @property
-    def posix_mask(self) -> int:
-        """The rights that stand for the permissions in the bridge of a POSIX ACL."""
-        return sum(rights for bit, rights in POSIX_MASKS.items() if self.perms & bit)
-
-
-def want_of(text: str, any_of: bool = False) -> Want:
-    """Reads what is asked for: some of the letters r, w and x, or names of rights with `|` between them.
-
-    Raises UsageError if the text is neither, or is empty.
-    """
-    if text and set(text) <= set(PERMISSIONS):
-        perms = perm_of(text)
-        return Want(text, sum(mask for bit, mask in POSIX_MASKS.items() if perms & bit), perms, 0, any_of)
-    try:
-        mask = read_mask(text)
-    except ValueError:
-        mask = 0
-    if not mask:
-        raise UsageError(f"--may takes letters of rwx, or names of rights with | between them, and not {text!r}")
-    perms = sum(bit for bit, rights in POSIX_MASKS.items() if mask & rights)
-    known = READ_DATA | WRITE_DATA | APPEND_DATA | EXECUTE
-    return Want(text, mask, perms, mask & ~known, any_of)
 
 
 @dataclass(frozen=True)
@@ -148,16 +92,6 @@ class _Named(NamedTuple):
 
 Outcome = Union[RefusedList, Answers]
 """What is answered about a list: why it is refused, or whom it grants what is asked."""
-
-
-def _put_to(asked: AskableList, want: Want) -> Union[RefusedList, Want]:
-    """Returns what is asked of a list of its kind, or why it has no such right."""
-    if asked.kind is Kind.POSIX:
-        if want.missing and not (want.any and want.perms):
-            return RefusedList(f"a POSIX ACL has no {mask_text(want.missing)}")
-        return want._replace(mask=want.posix_mask)
-    return want
-
 
 _MOST_NAMED = 8
 """For how many trees the people are kept with the ids that they have there."""
@@ -381,7 +315,7 @@ class Asker:
         asked = self.ready(face.list)
         if isinstance(asked, RefusedList):
             return [asked] * len(wants)
-        put = [_put_to(asked, want) for want in wants]
+        put = [put_to(asked, want) for want in wants]
         rest = [want for want in put if isinstance(want, Want)]
         found = iter(self._asked(face, asked, rest) if rest else ())
         return [want if isinstance(want, RefusedList) else next(found) for want in put]

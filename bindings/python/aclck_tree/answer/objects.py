@@ -7,13 +7,14 @@ from typing import Dict, Hashable, Iterable, Iterator, List, NamedTuple, Optiona
 
 from aclck import mask_text
 
-from aclck_tree.answer.ask import DENIED, GRANTED, UNKNOWN, Answer, Answers, AskOptions, Asker, Outcome, Want
+from aclck_tree.answer.ask import DENIED, GRANTED, UNKNOWN, Answer, Answers, AskOptions, Asker, Outcome
 from aclck_tree.answer.bits import ones
 from aclck_tree.answer.commands import Tally
 from aclck_tree.answer.lists import AskableList, Kind, RefusedList
 from aclck_tree.answer.obtain import Obtaining, Place
 from aclck_tree.answer.reach import reached, root_note
 from aclck_tree.answer.steps import Stepping
+from aclck_tree.answer.wants import Want
 from aclck_tree.output.text import ObjectName, ObjectNamer, plural, quoted
 from aclck_tree.snapshot.names import Kept
 from aclck_tree.snapshot.selecting import Counted, Paths, beginnings, count_by, counted, selected

@@ -12,9 +12,10 @@ from typing import Dict, Hashable, Iterator, Optional, Tuple
 
 from aclck import EXECUTE, READ_ACL, READ_ATTRIBUTES, READ_DATA, READ_NAMED_ATTRS, SYNCHRONIZE, WRITE_ACL
 
-from aclck_tree.answer.ask import Answers, Asker, Outcome, Want, want_of
+from aclck_tree.answer.ask import Answers, Asker, Outcome
 from aclck_tree.answer.lists import AceType, Piece, RefusedList, joined, pieces
 from aclck_tree.answer.reach import above_root, passers
+from aclck_tree.answer.wants import Want, want_of
 from aclck_tree.snapshot.names import Kept
 from aclck_tree.snapshot.snapshot import Face, StoredForm, StoredList
 

@@ -8,7 +8,7 @@ import itertools
 import os
 from typing import Dict, List, Optional, Tuple, Union
 
-from aclck_tree.answer.ask import DENIED, GRANTED, UNKNOWN, Answer, AskOptions, Asker, Want, want_of
+from aclck_tree.answer.ask import DENIED, GRANTED, UNKNOWN, Answer, AskOptions, Asker
 from aclck_tree.answer.bits import chosen, ones
 from aclck_tree.answer.commands import Tally, asker_of, opened, people_of, person_of, status_of
 from aclck_tree.answer.lists import Kind, RefusedList
@@ -16,6 +16,7 @@ from aclck_tree.answer.objects import Basis, ObjectsQuestion
 from aclck_tree.answer.reach import AS_ROOT, stopped, tell_above
 from aclck_tree.answer.reasons import Why, why_request
 from aclck_tree.answer.reasons import why as why_of
+from aclck_tree.answer.wants import Want, want_of
 from aclck_tree.output.errors import NO, REFUSED, YES, UsageError
 from aclck_tree.output.text import Form, ObjectName, ObjectNamer, Output, Row, name_in, plural, quoted, table, tell
 from aclck_tree.people.people import Person

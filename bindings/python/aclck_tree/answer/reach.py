@@ -8,9 +8,10 @@ from typing import Callable, Dict, Iterator, List, NamedTuple, Optional, Sequenc
 
 from aclck import PosixAcl
 
-from aclck_tree.answer.ask import DENIED, GRANTED, UNKNOWN, Answers, Asker, want_of
+from aclck_tree.answer.ask import DENIED, GRANTED, UNKNOWN, Answers, Asker
 from aclck_tree.answer.lists import RefusedList
 from aclck_tree.answer.reasons import Why, why
+from aclck_tree.answer.wants import want_of
 from aclck_tree.output.text import first_few, plural, quoted, quoted_line, quoted_path, tell
 from aclck_tree.people.people import Person
 from aclck_tree.snapshot.snapshot import Face, Tree

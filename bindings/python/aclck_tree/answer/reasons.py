@@ -7,10 +7,11 @@ from typing import Dict, Iterator, List, NamedTuple, Optional, Tuple, Union
 from aclck import ALL, ALLOW, Decision, mask_text
 from aclck.entries import PERMISSIONS, letters_of
 
-from aclck_tree.answer.ask import DENIED, GRANTED, UNKNOWN, Answer, Asker, Want
+from aclck_tree.answer.ask import DENIED, GRANTED, UNKNOWN, Answer, Asker
 from aclck_tree.answer.identities import Identity
 from aclck_tree.answer.lists import POSIX_MASKS, AskableList, Kind, RefusedList
 from aclck_tree.answer.posix import check
+from aclck_tree.answer.wants import Want
 from aclck_tree.output.text import quoted
 from aclck_tree.people.people import Person
 from aclck_tree.snapshot.snapshot import Face

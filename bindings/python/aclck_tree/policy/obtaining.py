@@ -10,11 +10,12 @@ from typing import Dict, Iterable, Iterator, List, NamedTuple, Sequence, Tuple
 
 from aclck import mask_text
 
-from aclck_tree.answer.ask import Answers, Asker, want_of
+from aclck_tree.answer.ask import Answers, Asker
 from aclck_tree.answer.bits import bits_of
 from aclck_tree.answer.lists import AskableList, Kind, RefusedList
 from aclck_tree.answer.obtain import Obtaining, Place
 from aclck_tree.answer.steps import Stepping, Way
+from aclck_tree.answer.wants import want_of
 from aclck_tree.output.text import ObjectName, quoted
 from aclck_tree.people.people import Person
 from aclck_tree.policy.judging import Breach, Verdict

@@ -5,11 +5,12 @@ from __future__ import annotations
 
 from typing import Dict, Iterator, NamedTuple, Optional, Tuple
 
-from aclck_tree.answer.ask import UNKNOWN, Answer, Answers, Asker, want_of
+from aclck_tree.answer.ask import UNKNOWN, Answer, Answers, Asker
 from aclck_tree.answer.bits import chosen
 from aclck_tree.answer.lists import RefusedList
 from aclck_tree.answer.objects import Basis, ObjectsQuestion
 from aclck_tree.answer.obtain import Place
+from aclck_tree.answer.wants import want_of
 from aclck_tree.output.text import quoted
 
 _SHOWN = 10

@@ -9,11 +9,12 @@ import sys
 from dataclasses import dataclass, field, replace
 from typing import Any, Dict, Iterable, Iterator, List, NamedTuple, Optional, Set, TextIO, Tuple
 
-from aclck_tree.answer.ask import DENIED, GRANTED, UNKNOWN, Answers, Asker, Want
+from aclck_tree.answer.ask import DENIED, GRANTED, UNKNOWN, Answers, Asker
 from aclck_tree.answer.commands import asker_of, opened, people_of, status_of
 from aclck_tree.answer.lists import AskableList, Kind, RefusedList
 from aclck_tree.answer.obtain import Place
 from aclck_tree.answer.reach import tell_above
+from aclck_tree.answer.wants import Want
 from aclck_tree.output.errors import NO, REFUSED, YES, UsageError
 from aclck_tree.output.files import replaced
 from aclck_tree.output.text import Form, ObjectNamer, Output, plural, quoted, quoted_host, tell

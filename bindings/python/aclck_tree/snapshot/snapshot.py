@@ -232,8 +232,7 @@ class Snapshot:
     def _rows_at_once(self, query: str, values: Sequence[object]) -> Iterator[List[Any]]:
         """Yields the rows of a query, many at once, which is quicker."""
         try:
-            found = self._db.execute(query, values)
-            yield from iter(lambda: found.fetchmany(_AT_ONCE), [])
+            yield from iter(functools.partial(self._db.execute(query, values).fetchmany, _AT_ONCE), [])
         except (sqlite3.DatabaseError, UnicodeDecodeError) as error:
             raise self._unreadable(error) from None
 
