@@ -13,6 +13,9 @@ from aclck_tree.output.errors import DeviceError, TreeError
 from aclck_tree.output.text import quoted, quoted_line
 from aclck_tree.snapshot.snapshot import Snapshot
 
+_INTERPRETER = b"#!/usr/bin/env -S python3 -I\n"
+"""The first line of `apply` and `undo`: nothing of the directory in which they run is imported."""
+
 
 class ListToSet(NamedTuple):
     """The objects of a tree with one owner, one group and one list get another list."""
@@ -71,7 +74,7 @@ class FixDirectory:
                 if lists:
                     _put(handle, "lists", [json.dumps(list(self._rows(lists))).encode()])
                     _put(handle, "paths", (b"%d %s\0" % one for one in objects))
-                    script = pkgutil.get_data("aclck_tree.policy", "set_lists.py") or b""
+                    script = _INTERPRETER + (pkgutil.get_data("aclck_tree.policy", "set_lists.py") or b"")
                     for name in ("undo", "apply"):
                         _put(handle, name, [script], 0o700)
         except OSError as error:

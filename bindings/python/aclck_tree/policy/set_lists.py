@@ -1,4 +1,3 @@
-#!/usr/bin/env -S python3 -I
 """Gives the objects of a tree mended lists (`apply`), or the lists of the snapshot again (`undo`). `aclck-tree policy
 --fix DIR` puts this file into DIR under both names. It needs Linux, Python 3.9 or later, and somebody who may change
 the lists.
