@@ -72,6 +72,8 @@ class Examination:
                 self._by_trial(trial, place, acl)
         if not all(self._report.tally(kind).questions for kind in (LISTS, MASKS)):
             self._report.reason = "the server takes no list, or verifies no right"
+        elif self._report.unasked():
+            self._report.reason = f"no question could be asked about {', '.join(self._report.unasked())}"
 
     def by_modes(self) -> None:
         """Asks about modes alone, of a server that keeps no lists. Raises TreeError if an answer is not known."""

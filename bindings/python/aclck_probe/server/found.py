@@ -78,6 +78,7 @@ class Tally:
     def lines(self, place: str) -> List[str]:
         """Returns the lines for people."""
         says = "answers by its list for everybody" if self.difference is None else "does not answer by its list"
+        says = says if self.questions else "not known"
         counts = f"{self.answered:,} of {plural(self.questions, 'question')}"
         more = f"; {plural(self.left_out, 'request')} left to the server" if self.left_out else ""
         return [f"{place}: {says}: {counts}{more}", *(self.difference.lines() if self.difference else ()),
@@ -123,6 +124,10 @@ class Report:
     def needs_of(self, is_directory: bool, word: str) -> Needs:
         """Returns what a request needs."""
         return self.needs.setdefault(("directory" if is_directory else "file", word), Needs())
+
+    def unasked(self) -> List[str]:
+        """Returns the kinds about which no question could be asked."""
+        return [kind for kind, tally in self.kinds.items() if not tally.questions]
 
     @property
     def status(self) -> int:
