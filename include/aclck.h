@@ -683,6 +683,15 @@ ACLCK_CALL ACLCK_READS(2) ACLCK_WRITES(5) ACLCK_WRITES(6)
 enum aclck_status aclck_restricted(aclck_bytes acl, const aclck_bytes *bound, enum aclck_option options,
                                    aclck_buffer out, size_t *needed, aclck_fault *fault);
 
+/* What the list keeps under `*bound` on its object and on everything that is ever created below it, as aclck_child()
+   makes the lists there: on each of these objects, the new list grants at most what both lists grant there. Of all
+   lists that are made by taking rights out of ALLOWs and do so, it keeps most. aclck_restricted() leaves the ALLOWs
+   with INHERIT_ONLY as they are, and this call does not. An ACE of the bound counts for new objects only if they
+   inherit it. Options: ACLCK_NARROW. */
+ACLCK_CALL ACLCK_READS(2) ACLCK_WRITES(5) ACLCK_WRITES(6)
+enum aclck_status aclck_restricted_everywhere(aclck_bytes acl, const aclck_bytes *bound, enum aclck_option options,
+                                              aclck_buffer out, size_t *needed, aclck_fault *fault);
+
 /* The questions of the list, as XDR (docs/reference/formats.md): each is the owner and the owning group of an object,
    and a user and the groups of that user. Another list that mentions no other principals, and that grants the same in
    each question, grants the same to everybody. A list that mentions n principals has at most 1 + n + n(n-1)/2

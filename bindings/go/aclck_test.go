@@ -207,6 +207,26 @@ func TestAListKeepsWhatABoundGrants(t *testing.T) {
 	}
 }
 
+// RFC 8881, section 6.4.3: new files inherit the first ALLOW and the bound, and the object itself has the bound alone.
+func TestAListKeepsWhatABoundGrantsOnNewObjects(t *testing.T) {
+	list := encoded(t, "ALLOW FILE|INHERITONLY READ_DATA|WRITE_DATA bob\nALLOW DIR READ_DATA bob\n")
+	bound := encoded(t, "ALLOW FILE READ_DATA EVERYONE@\n")
+	left := encoded(t, "ALLOW FILE|INHERITONLY READ_DATA bob\nALLOW DIR - bob\n")
+	for _, row := range []struct{ list, bound, left []byte }{
+		{list, bound, left}, {left, bound, left}, {list, list, list}, {list[:4:4], bound, nil},
+	} {
+		found, err := RestrictedEverywhere(row.list, row.bound, Narrow)
+		if (err == nil) != (row.left != nil) || !bytes.Equal(found, row.left) {
+			t.Errorf("RestrictedEverywhere is %v, %v", found, err)
+		}
+	}
+	_, err := RestrictedEverywhere(list, bound[:7], Full)
+	var fault *Fault
+	if !errors.As(err, &fault) || fault.List != 1 || fault.Offset != 4 {
+		t.Errorf("the bound is cut off: %v", err)
+	}
+}
+
 // The attribute dacl begins with the flags; in Samba's nfs41acl.x an ACE has type, flags, no special who, mask, id.
 func TestAListHasAValueInEachForm(t *testing.T) {
 	list := encoded(t, "ALLOW GROUP READ_DATA 20\n")

@@ -125,6 +125,18 @@ func Restricted(list, bound []byte, profile Profile) ([]byte, error) {
 	})
 }
 
+// RestrictedEverywhere returns what a list keeps under a bound on its object and on everything that is ever created
+// below it, where the bound is what the new object would inherit from it. Of all lists that are made by taking rights
+// out of ALLOWs, and that grant at most what the bound grants on each of these objects, it is the one that keeps most.
+func RestrictedEverywhere(list, bound []byte, profile Profile) ([]byte, error) {
+	block := newMemory(uintptr(len(bound)))
+	defer block.free()
+	limit := block.bytes(string(bound))
+	return made(len(list), func(out C.aclck_buffer, needed *C.size_t, fault *C.aclck_fault) C.enum_aclck_status {
+		return C.aclck_restricted_everywhere(bytesOf(list), &limit, C.enum_aclck_option(profile), out, needed, fault)
+	})
+}
+
 // Same returns whether two lists grant everybody the same.
 func Same(first, second []byte, profile Profile) (bool, error) {
 	var same C.uint32_t

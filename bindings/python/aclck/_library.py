@@ -255,7 +255,7 @@ _CALLS: "List[Tuple[str, List[Any]]]" = [
     ("next", [Bytes, Word, ctypes.POINTER(_size), ctypes.POINTER(Ace), _fault]),
     ("renamed", [Bytes, ctypes.POINTER(Renamings), Word, *_out, _fault]),
     ("resolved", [Bytes, ctypes.POINTER(Object), Word, *_out, _fault]),
-    ("restricted with_groups", [Bytes, ctypes.POINTER(Bytes), Word, *_out, _fault]),
+    ("restricted restricted_everywhere with_groups", [Bytes, ctypes.POINTER(Bytes), Word, *_out, _fault]),
     ("read_form", [Bytes, Word, *_out, _words, _fault]),
     ("read_part", [Bytes, Word, ctypes.POINTER(Part), Buffer, LeftOuts, _fault]),
     ("table holders", [Bytes, ctypes.POINTER(Question), *_out, _fault]),

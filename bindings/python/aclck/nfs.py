@@ -352,13 +352,16 @@ class NfsAcl:
         this list grants a right that the other list does not grant."""
         return self._found("excess", other._list, self._options & other._options)
 
-    def restricted(self, bound: NfsAcl) -> NfsAcl:
+    def restricted(self, bound: NfsAcl, *, everywhere: bool = False) -> NfsAcl:
         """Returns what this list keeps under a bound: a right of an ALLOW goes if and only if the DENYs before it, and
         then it, grant the right to somebody whom the bound denies it. Of all lists that are made by taking rights out
-        of ALLOWs, and that grant at most what the bound grants, it is the one that keeps most. It is this list if and
-        only if `exceeds` returns None."""
+        of ALLOWs, and that grant at most what the bound grants, it is the one that keeps most. Without `everywhere`, it
+        is this list if and only if `exceeds` returns None. With `everywhere`, the bound counts on the object and on
+        everything that is ever created below it, by the lists that `child` makes of both: so rights also go from ALLOWs
+        with INHERIT_ONLY, and an ACE of the bound counts for new objects only if they inherit it."""
+        call = "restricted_everywhere" if everywhere else "restricted"
         args = (self._list, bound._list, self._options & bound._options)
-        return self._like(c.bytes_of("restricted", args, len(self._bytes)))
+        return self._like(c.bytes_of(call, args, len(self._bytes)))
 
     def questions(self, most: int) -> List[Question]:
         """Returns the questions of this list. A list that mentions no other principals, and that grants the same as

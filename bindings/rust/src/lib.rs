@@ -23,7 +23,8 @@ use std::fmt;
 pub use aces::{aces, build, Ace};
 pub use nfs4::{
     check, check_many, child, child_marked, chmod, compare, decide, deciding, encode, excess, granted, holders, implies,
-    mode, needed, normalize, normalize_inherit, resolved, restricted, same, show, table, with_groups,
+    mode, needed, normalize, normalize_inherit, resolved, restricted, restricted_everywhere, same, show, table,
+    with_groups,
 };
 pub use entries::{
     entries_bridge, entries_calc_mask, entries_check, entries_chmod, entries_create, entries_deciding, entries_excess,

@@ -126,6 +126,16 @@ pub fn restricted(acl: &[u8], bound: &[u8], profile: Profile) -> Result<Vec<u8>,
     })
 }
 
+/// Returns what a list keeps under a bound on its object and on everything that is ever created below it, by the lists
+/// that `child` makes of both. Of all lists that are made by taking rights out of ALLOWs, and that grant at most what
+/// the bound grants on each of these objects, it is the one that keeps most.
+pub fn restricted_everywhere(acl: &[u8], bound: &[u8], profile: Profile) -> Result<Vec<u8>, Error> {
+    let limit = Bytes::of(bound);
+    made(acl.len(), |out, needed, fault| unsafe {
+        raw::aclck_restricted_everywhere(Bytes::of(acl), &limit, options(profile), out, needed, fault)
+    })
+}
+
 /// Returns the text of the list.
 pub fn show(acl: &[u8], profile: Profile) -> Result<Vec<u8>, Error> {
     let options = options(profile);

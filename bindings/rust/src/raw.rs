@@ -347,6 +347,9 @@ extern "C" {
     pub fn aclck_restricted(
         acl: Bytes, bound: *const Bytes, options: u32, out: Buffer<u8>, needed: *mut usize, fault: *mut Fault,
     ) -> u32;
+    pub fn aclck_restricted_everywhere(
+        acl: Bytes, bound: *const Bytes, options: u32, out: Buffer<u8>, needed: *mut usize, fault: *mut Fault,
+    ) -> u32;
     pub fn aclck_read_form(
         value: Bytes, form: u32, out: Buffer<u8>, needed: *mut usize, flags: *mut u32, fault: *mut Fault,
     ) -> u32;

@@ -205,6 +205,20 @@ fn a_list_keeps_what_a_bound_grants() {
 }
 
 #[test]
+fn a_list_keeps_what_a_bound_grants_on_new_objects() {
+    // RFC 8881, section 6.4.3: new files inherit the first ALLOW and the bound. The object itself has the bound alone.
+    let list = |text: &[u8]| encode(text, Profile::Full).unwrap();
+    let given = list(b"ALLOW FILE|INHERITONLY READ_DATA|WRITE_DATA bob\nALLOW DIR READ_DATA bob\n");
+    let bound = list(b"ALLOW FILE READ_DATA EVERYONE@\n");
+    let left = list(b"ALLOW FILE|INHERITONLY READ_DATA bob\nALLOW DIR - bob\n");
+    assert_eq!(restricted(&given, &bound, Profile::Full), Ok(given.clone()));
+    assert_eq!(restricted_everywhere(&given, &bound, Profile::Full), Ok(left));
+    assert_eq!(restricted_everywhere(&given, &given, Profile::Narrow), Ok(given.clone()));
+    let fault = restricted_everywhere(&given, &bound[..7], Profile::Full).unwrap_err();
+    assert!(matches!(fault, Error::Refused(Fault { reason: 1, offset: 4, list: 1, .. })), "{fault}");
+}
+
+#[test]
 fn a_list_has_a_value_in_each_form() {
     // The attribute dacl begins with the flags; in Samba's nfs41acl.x an ACE has type, flags, no special who, mask, id.
     let list = encode(b"ALLOW GROUP READ_DATA 20\n", Profile::Full).unwrap();

@@ -12,5 +12,9 @@ pub mod Excesses
 pub mod Keeping
 -- which ALLOWs exceed a bound, by the numbers of principals and by tables
 pub mod Naming
+-- what a list grants at five paths of creations, with each ACE at its place
+pub mod InPlace
+-- the greatest removal at five paths, and at every path
+pub mod PutBack
 -- worked lists
 pub mod Worked

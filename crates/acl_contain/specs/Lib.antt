@@ -1,3 +1,4 @@
+pub mod EveryPath
 pub mod Holders
 pub mod Implied
 pub mod Needed

@@ -18,9 +18,12 @@ pub record IsAceRemoval (a cut : Ace) : Type 0 where
 abbrev pub IsRemoval : List Ace → List Ace → Type 0
 IsRemoval = AllZip IsAceRemoval
 
--- a removal of the list that grants at most what the bound grants, and of which every such removal is a removal
-pub record IsGreatestRemoval (list bound cut : List Ace) : Type 0 where
+-- a removal of the list that passes a test, and of which every such removal is a removal
+pub record IsGreatestWithin (IsWithin : List Ace → Type 0) (list cut : List Ace) : Type 0 where
   pub removal : IsRemoval list cut
-  pub at_most_bound : GrantsAtMost all_rights cut bound
-  pub greatest : (other : List Ace) → IsRemoval list other → GrantsAtMost all_rights other bound
-      → IsRemoval cut other
+  pub within : IsWithin cut
+  pub greatest : (other : List Ace) → IsRemoval list other → IsWithin other → IsRemoval cut other
+
+-- a removal of the list that grants at most what the bound grants, and of which every such removal is a removal
+abbrev pub IsGreatestRemoval : List Ace → List Ace → List Ace → Type 0
+IsGreatestRemoval list bound = IsGreatestWithin (λ cut. GrantsAtMost all_rights cut bound) list

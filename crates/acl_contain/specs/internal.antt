@@ -10,3 +10,5 @@ pub mod Limits
 pub mod LimitTables
 -- which rights were kept so far
 pub mod Kept
+-- a list at one of five paths, with each ACE at its place
+pub mod InPlace

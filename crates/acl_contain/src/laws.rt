@@ -3,6 +3,7 @@
 ghost use Rattle.std.specs.Prelude.{◌↔◌, ◌≡◌};
 ghost use Rattle.acl_normal.specs.Common.{Ace, all_rights, IsAccepted, IsNormalFormOf, List, SameGrants, full, ℕ};
 ghost use Rattle.acl_eval.specs.Grant.{GrantsAtMost};
+ghost use Rattle.acl_contain.specs.EveryPath.{AtMostEverywhere, IsGreatestEverywhere};
 ghost use Rattle.acl_contain.specs.Questions.{AskEachSet, AskFew, QuestionsSuffice};
 ghost use Rattle.acl_contain.specs.Removal.{IsGreatestRemoval, IsRemoval};
 
@@ -35,6 +36,29 @@ pub fn greatest_removal()
     // A bound that grants no less takes no more.
     ensures wider { (list bound wide cut more : List Ace) → GrantsAtMost all_rights bound wide
         → IsGreatestRemoval list bound cut → IsGreatestRemoval list wide more → IsRemoval more cut }
+{}
+
+/// What a list keeps if rights are taken out of its ALLOWs until, at every path of creations, it grants at most what a
+/// bound grants there: there is one list that keeps most, and every other list that is made so is made of that one by
+/// taking out more.
+pub fn greatest_removal_everywhere()
+    // Taking rights out of ALLOWs grants nobody more at any path.
+    ensures less { (list cut : List Ace) → IsRemoval list cut → AtMostEverywhere cut list }
+    // There is a greatest removal, and only one.
+    ensures exists { (list bound : List Ace) → IsAccepted full list → IsAccepted full bound
+        → (cut : List Ace) × IsGreatestEverywhere list bound cut }
+    ensures unique { (list bound cut other : List Ace) → IsGreatestEverywhere list bound cut
+        → IsGreatestEverywhere list bound other → other ≡ cut }
+    // It is the list itself if and only if the list grants at most what the bound grants at every path.
+    ensures unchanged { (list bound cut : List Ace) → IsGreatestEverywhere list bound cut
+        → (cut ≡ list) ↔ AtMostEverywhere list bound }
+    // It is made of what the list keeps under the bound on the object alone, by taking out more.
+    ensures less_than_here { (list bound cut more : List Ace) → IsGreatestEverywhere list bound cut
+        → IsGreatestRemoval list bound more → IsRemoval more cut }
+    // A bound that grants no less at every path takes no more.
+    ensures wider { (list bound wide cut more : List Ace) → AtMostEverywhere bound wide
+        → IsGreatestEverywhere list bound cut → IsGreatestEverywhere list wide more
+        → IsRemoval more cut }
 {}
 
 /// What the questions of a list show: a list that mentions no other principals, and answers each question as the list

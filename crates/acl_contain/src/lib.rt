@@ -17,4 +17,5 @@ pub use exceeding::excess;
 pub use holder_lines::holders;
 pub use implying::implies;
 pub use needed_rights::needed_of_view;
+pub use restricting::everywhere::restricted_everywhere;
 pub use restricting::restricted;

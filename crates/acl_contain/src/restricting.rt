@@ -8,10 +8,12 @@ ghost use Rattle.acl_contain.specs.internal.Kept.{HaveKept, Lacks};
 ghost use Rattle.acl_contain.specs.internal.Limits.{AreLimits, IsNaming, bound_of};
 ghost use Rattle.acl_contain.specs.internal.Restriction.{IsRestricted};
 
+pub(crate) mod everywhere;
 mod excess;
 mod limits;
 mod named;
 mod naming;
+mod short_path;
 
 use acl_nfs4::{AceRef, Acl, AclView};
 use acl_normal::internal::collect;

@@ -12,3 +12,4 @@ mod implications;
 mod lists;
 mod needed_rights;
 mod restrictions;
+mod restrictions_everywhere;

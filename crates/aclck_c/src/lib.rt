@@ -26,6 +26,7 @@ pub use nfs4::compare::{RawDifference, aclck_compare};
 pub use nfs4::decide::{RawDecided, aclck_decide};
 pub use nfs4::deciding::{RawDecision, aclck_deciding};
 pub use nfs4::encode::aclck_encode;
+pub use nfs4::everywhere::aclck_restricted_everywhere;
 pub use nfs4::excess::aclck_excess;
 pub use nfs4::form_part::{RawLeftOut, RawPart, aclck_read_part};
 pub use nfs4::forms::{aclck_read_form, aclck_write_form};

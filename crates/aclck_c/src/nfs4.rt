@@ -9,6 +9,7 @@ pub(crate) mod compare;
 pub(crate) mod decide;
 pub(crate) mod deciding;
 pub(crate) mod encode;
+pub(crate) mod everywhere;
 pub(crate) mod excess;
 pub(crate) mod form_fault;
 pub(crate) mod form_part;

@@ -5,7 +5,7 @@ use Rattle.acl_normal.proofs.Each.{all_at, zip_at}
 use Rattle.acl_eval.proofs.Same.{at_most_by_bits}
 use Rattle.acl_eval.specs.Grant.{GrantsAtMost, grants_bit}
 use Rattle.acl_contain.proofs.restriction.Removals.{granted_reaches, reached_granted}
-use Rattle.acl_contain.specs.Removal.{IsAceRemoval, IsGreatestRemoval, IsRemoval}
+use Rattle.acl_contain.specs.Removal.{IsAceRemoval, IsGreatestRemoval, IsGreatestWithin, IsRemoval}
 use Rattle.acl_contain.specs.internal.Restriction.{IsRestricted}
 
 -- a list is a removal of itself
@@ -75,7 +75,7 @@ restricted_greatest list bound kept other masks r removal most =
     (reached_granted list other s bit place removal l allow has reached)))
 
 -- sets of bits that are parts of each other are the same
-same_mask : (m n : ℕ) → IsSubset m n → IsSubset n m → m ≡ n
+pub same_mask : (m n : ℕ) → IsSubset m n → IsSubset n m → m ≡ n
 same_mask m n within back = same_set m n (λ bit. same_answers (has_bit m bit) (has_bit n bit) (within bit) (back bit))
 
 -- ACEs that are cuts of each other are the same
@@ -98,21 +98,20 @@ pub restricted_is_greatest : (list bound cut : List Ace) → HasMasks list → I
     → IsGreatestRemoval list bound cut
 restricted_is_greatest list bound cut masks r = record {
   removal = r.removal;
-  at_most_bound = restricted_at_most list bound cut r;
+  within = restricted_at_most list bound cut r;
   greatest = λ other removal most. restricted_greatest list bound cut other masks r removal most;
 }
 
--- two greatest removals are the same
-pub greatest_once : (list bound cut other : List Ace) → IsGreatestRemoval list bound cut
-    → IsGreatestRemoval list bound other → other ≡ cut
-greatest_once list bound cut other first second = removals_same cut other
-    (first.greatest other second.removal second.at_most_bound)
-    (second.greatest cut first.removal first.at_most_bound)
+-- two greatest removals that pass a test are the same
+pub greatest_once : (W : List Ace → Type 0) (list cut other : List Ace) → IsGreatestWithin W list cut
+    → IsGreatestWithin W list other → other ≡ cut
+greatest_once W list cut other first second = removals_same cut other
+    (first.greatest other second.removal second.within) (second.greatest cut first.removal first.within)
 
--- the greatest removal is the list if and only if the list grants at most what the bound grants
-pub greatest_unchanged : (list bound cut : List Ace) → IsGreatestRemoval list bound cut
-    → (cut ≡ list) ↔ GrantsAtMost all_rights list bound
-greatest_unchanged list bound cut g = (
-  λ same. subst (λ v. GrantsAtMost all_rights v bound) same g.at_most_bound,
-  λ most. removals_same list cut g.removal (g.greatest list (removal_itself list) most),
+-- the greatest removal that passes a test is the list if and only if the list passes it
+pub greatest_unchanged : (W : List Ace → Type 0) (list cut : List Ace) → IsGreatestWithin W list cut
+    → (cut ≡ list) ↔ W list
+greatest_unchanged W list cut g = (
+  λ same. subst W same g.within,
+  λ passes. removals_same list cut g.removal (g.greatest list (removal_itself list) passes),
 )

@@ -2,7 +2,8 @@
 //! its subject. That file has the expected values and says where they are from.
 
 use super::{
-    asked_questions, equal_lists, excesses, holder_words, implications, needed_rights, restrictions,
+    asked_questions, equal_lists, excesses, holder_words, implications, needed_rights,
+    restrictions, restrictions_everywhere,
 };
 use acl_nfs4::PushFault;
 
@@ -16,5 +17,6 @@ fn every_row_of_the_tables_holds_if_memory_is_ample(rt: HostRuntime) -> Result<(
     holder_words::holder_words(&rt, alloc)?;
     implications::worked_implications(&rt, alloc)?;
     needed_rights::needed_rights(&rt, alloc)?;
-    restrictions::worked_restrictions(&rt, alloc)
+    restrictions::worked_restrictions(&rt, alloc)?;
+    restrictions_everywhere::worked_restrictions(&rt, alloc)
 }

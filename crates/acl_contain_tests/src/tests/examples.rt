@@ -44,6 +44,22 @@ mod ample {
     }
 
     #[test]
+    fn new_files_do_not_get_what_the_bound_does_not_grant_them(
+        rt: HostRuntime,
+    ) -> Result<(), Fail> {
+        let alloc = rt.alloc();
+        let list = parse_text(
+            alloc,
+            b"ALLOW FILE|INHERITONLY READ_DATA|WRITE_DATA EVERYONE@\n",
+        )?;
+        let bound = parse_text(alloc, b"ALLOW FILE READ_DATA EVERYONE@\n")?;
+        assert!(rt; restricted(alloc, &list, &bound)? == list);
+        let kept = restricted_everywhere(alloc, &list, &bound)?;
+        assert!(rt; kept == parse_text(alloc, b"ALLOW FILE|INHERITONLY READ_DATA EVERYONE@\n")?);
+        Ok(())
+    }
+
+    #[test]
     fn a_deny_of_a_user_whom_no_ace_allows_changes_nothing(rt: HostRuntime) -> Result<(), Fail> {
         let alloc = rt.alloc();
         let first = parse_text(alloc, b"DENY - WRITE_DATA bob\nALLOW - READ_DATA OWNER@\n")?;

@@ -123,8 +123,8 @@ fn a_list_keeps_most_under_a_bound(rt: HostRuntime) {
 
 static FEW: [AceRow; 6] = [BOB, NO_BOB, STAFF, NO_TEMPS, EVERYONE, AMY];
 
-// The row, without rights if it is an ALLOW and does not keep them.
-fn cut(row: AceRow, keeps: bool) -> AceRow {
+/// Returns the row, without rights if it is an ALLOW and does not keep them.
+pub fn cut(row: AceRow, keeps: bool) -> AceRow {
     let (kind, flags, mask, who) = row;
     let left = if keeps || kind == DENY { mask } else { 0 };
     (kind, flags, left, who)

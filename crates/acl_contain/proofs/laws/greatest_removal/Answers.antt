@@ -1,7 +1,8 @@
-use Rattle.acl_normal.proofs.Common.{full}
+use Rattle.acl_normal.proofs.Common.{all_rights, full}
 use Rattle.acl_normal.proofs.unique.Accepted.{accepted_masks, accepted_names}
 use Rattle.acl_contain.proofs.restriction.Chosen.{restricted, restricted_by_rule}
 use Rattle.acl_contain.proofs.restriction.Greatest.{greatest_once, greatest_unchanged, removal_at_most, restricted_is_greatest}
+use Rattle.acl_eval.specs.Grant.{GrantsAtMost}
 use Rattle.acl_contain.proofs.laws.greatest_removal.Goals as goal
 
 pub returns-clause-less : goal.returns-clause-less
@@ -15,12 +16,12 @@ returns-clause-exists c = λ list bound accepted other. (
 )
 
 pub returns-clause-unique : goal.returns-clause-unique
-returns-clause-unique c = greatest_once
+returns-clause-unique c = λ list bound. greatest_once (λ cut. GrantsAtMost all_rights cut bound) list
 
 pub returns-clause-unchanged : goal.returns-clause-unchanged
-returns-clause-unchanged c = greatest_unchanged
+returns-clause-unchanged c = λ list bound. greatest_unchanged (λ cut. GrantsAtMost all_rights cut bound) list
 
 pub returns-clause-wider : goal.returns-clause-wider
 returns-clause-wider c = λ list bound wide cut more less first second.
     second.greatest cut first.removal (λ s valid request within granted.
-    less s valid request within (first.at_most_bound s valid request within granted))
+    less s valid request within (first.within s valid request within granted))

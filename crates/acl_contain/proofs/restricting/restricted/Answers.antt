@@ -1,5 +1,6 @@
-use Rattle.acl_normal.proofs.Common.{IfOk, IfOk-weaker, subst}
+use Rattle.acl_normal.proofs.Common.{all_rights, IfOk, IfOk-weaker, subst}
 use Rattle.acl_contain.proofs.restriction.Greatest.{greatest_unchanged, removal_at_most}
+use Rattle.acl_eval.specs.Grant.{GrantsAtMost}
 use Rattle.acl_contain.proofs.restricting.restricted.Goals as goal
 use Rattle.acl_contain.specs.Removal.{IsGreatestRemoval}
 
@@ -15,9 +16,10 @@ returns c =
       removal = IfOk-weaker r (IsGreatestRemoval list bound) _ (λ kept h. h.removal) g;
       at_most_list = IfOk-weaker r (IsGreatestRemoval list bound) _
           (λ kept h. removal_at_most list kept h.removal) g;
-      at_most_bound = IfOk-weaker r (IsGreatestRemoval list bound) _ (λ kept h. h.at_most_bound) g;
+      at_most_bound = IfOk-weaker r (IsGreatestRemoval list bound) _ (λ kept h. h.within) g;
       greatest = g;
       most = IfOk-weaker r (IsGreatestRemoval list bound) _
           (λ kept h other removal most. removal_at_most kept other (h.greatest other removal most)) g;
-      unchanged = IfOk-weaker r (IsGreatestRemoval list bound) _ (λ kept h. greatest_unchanged list bound kept h) g;
+      unchanged = IfOk-weaker r (IsGreatestRemoval list bound) _ (λ kept h. greatest_unchanged
+          (λ cut. GrantsAtMost all_rights cut bound) list kept h) g;
     }

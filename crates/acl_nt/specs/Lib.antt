@@ -1,0 +1,15 @@
+pub mod Sid
+pub mod SidName
+pub mod Descriptor
+pub mod Faults
+pub mod Conditions
+pub mod Numbers
+pub mod SidAt
+pub mod AceAt
+pub mod AclAt
+pub mod DescriptorAt
+pub mod Ntacl
+pub mod Spells
+pub mod internal
+pub mod NtCheck
+pub mod NtList

@@ -1,0 +1,4 @@
+//! The tests of this crate, with values of Samba.
+
+mod lists;
+mod values;
