@@ -1,5 +1,5 @@
-/* Times calls of libaclck, and a hand-written check in C, which parses the list as bench/by_hand does and judges it in
- * full.
+/* Times calls of libaclck, and the same by hand in C: a check that parses the list as bench/by_hand does and judges it
+ * in full, and a check and a text of a POSIX ACL by functions of bench/by_hand, which must write the same text.
  *
  *     library LIST COUNT          times each call, with COUNT also on a list of that many ACEs, each for a user
  *     library LIST 0 CALL TIMES   makes one call so often, so that a tool can count its instructions
@@ -9,6 +9,8 @@
 #include "../include/aclck.h"
 #include "by_hand/devices.h"
 #include "by_hand/list.h"
+#include "by_hand/nfs4.h"
+#include "by_hand/posix.h"
 #include <time.h>
 
 enum { ROUNDS = 7, MANY = 1000 };
@@ -80,6 +82,35 @@ static u32 by_hand(const u8 *bytes, size_t len, aclck_bytes owner, aclck_bytes g
     return left != 0;
 }
 
+static void forget_entries(void)
+{
+    free(access_acl.entries);
+    free(default_acl.entries);
+    access_acl = default_acl = (Acl){ 0, 0, 0 };
+}
+
+static u8 six_entries[] = "u::rwx,u:7:rw-,g::r-x,g:8:r--,m::rwx,o::---\n";
+enum { SIX_ENTRIES = sizeof six_entries - 2 };
+
+static int posix_check_by_hand(const aclck_posix_question *question)
+{
+    read_entries(six_entries, SIX_ENTRIES);
+    int granted = posix_grants(question->owner, question->group, question->user, question->groups,
+                               (u32)question->ngroups, question->want);
+    forget_entries();
+    return granted;
+}
+
+static int posix_show_by_hand(void)
+{
+    read_entries(six_entries, SIX_ENTRIES);
+    out.len = 0;
+    put_entries(&access_acl, "", 0);
+    put_entries(&default_acl, "default:", 8);
+    forget_entries();
+    return 0;
+}
+
 static u8 list[1 << 16];
 static u8 bytes[1 << 16];
 
@@ -120,8 +151,8 @@ static void time_others(aclck_bytes acl, const aclck_object *object, const aclck
     const aclck_id_object id_object = {1, 1};
     const aclck_id_requester id_requester = {2, ids, 2};
     const aclck_question all = {ACLCK_ALL_RIGHTS, ACLCK_FULL};
-    const aclck_buffer room = {prepared, sizeof prepared}, out = {bytes, sizeof bytes};
-    const aclck_posix_text text = {aclck_string("u::rwx,u:7:rw-,g::r-x,g:8:r--,m::rwx,o::---"), {NULL, 0}};
+    const aclck_buffer room = {prepared, sizeof prepared}, shown = {bytes, sizeof bytes};
+    const aclck_posix_text text = {aclck_bytes_of(six_entries, SIX_ENTRIES), {NULL, 0}};
     const aclck_posix_question question = {1, 1, 2, ACLCK_PERM_READ, ids, 2};
     aclck_decided decided;
     aclck_fault fault;
@@ -134,8 +165,12 @@ static void time_others(aclck_bytes acl, const aclck_object *object, const aclck
     if (aclck_prepare_ids(acl, &names, ACLCK_FULL, room, &made.len, &fault))
         exit(3);
     TIME("decide_ids", 300000, 1, aclck_decide_ids(made, &id_object, &id_requester, &all, &decided));
-    TIME("posix_check, six entries", 100000, 1, aclck_posix_check(&text, &question, &word, &fault));
-    TIME("posix_show, six entries", 100000, 1, aclck_posix_show(&text, ACLCK_FORM_SHOWN, out, &n, &fault));
+    TIME("posix_check, six entries", 100000, 1, aclck_posix_check(&text, &question, &word, &fault) + word);
+    TIME("posix_check by hand, six entries", 100000, 1, posix_check_by_hand(&question));
+    TIME("posix_show, six entries", 100000, 1, aclck_posix_show(&text, ACLCK_CANONICAL, shown, &n, &fault));
+    TIME("posix_show by hand, six entries", 100000, 1, posix_show_by_hand());
+    if (!only && (n != out.len || memcmp(bytes, out.bytes, n)))
+        exit(3);
 }
 
 int main(int argc, char **argv)
@@ -185,7 +220,7 @@ int main(int argc, char **argv)
     if (aclck_normalize(acl, ACLCK_FULL, out, &n, &fault))
         return 3;
     TIME("same, with its normal form", 20000, 1,
-         aclck_same(acl, aclck_bytes_of(bytes, n), ACLCK_FULL, &word, &fault));
+         aclck_same(acl, aclck_bytes_of(bytes, n), ACLCK_FULL, &word, &fault) + word);
     TIME("compare, with the empty list", 20000, 1,
          aclck_compare(acl, aclck_bytes_of("\0\0\0", 4), ACLCK_FULL, &difference, out, &fault));
     time_others(acl, &object, &requester);

@@ -8,7 +8,7 @@ declare -gA _aclck_ask_options=(
     [same]=$_aclck_ask_shared
     [holders]=$_aclck_ask_shared
     [needed]=$_aclck_ask_shared
-    [restrict]=$_aclck_ask_shared
+    [restrict]="--inherit $_aclck_ask_shared"
     [who]="--people --owner --group $_aclck_ask_shared"
 )
 

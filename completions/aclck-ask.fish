@@ -34,6 +34,8 @@ complete -c aclck-ask -n '__fish_seen_subcommand_from at-most same holders neede
     -d 'What follows @ in names'
 complete -c aclck-ask -n '__fish_seen_subcommand_from at-most same holders needed restrict who' -l json \
     -d 'Write one JSON object'
+complete -c aclck-ask -n '__fish_seen_subcommand_from restrict' -l inherit \
+    -d 'Bound everything that will be created too'
 complete -c aclck-ask -n '__fish_seen_subcommand_from who' -l people -r -d 'Who is asked about'
 complete -c aclck-ask -n '__fish_seen_subcommand_from who' -l owner -x -a '(__fish_complete_users)' \
     -d 'The owner of the object'

@@ -876,6 +876,7 @@ static int are_limits_kept(void) {
     REFUSED(aclck_compare(heavy, full, 0, &r.difference, room, &r.fault), ACLCK_TOO_HEAVY, mask_at, 0, 0, 0);
     REFUSED(aclck_excess(LIST, heavy, 0, &r.difference, room, &r.fault), ACLCK_TOO_HEAVY, mask_at, 0, 0, 1);
     REFUSED(aclck_restricted(LIST, &heavy, 0, TO), ACLCK_TOO_HEAVY, mask_at, 0, 0, 1);
+    REFUSED(aclck_restricted_everywhere(LIST, &heavy, 0, TO), ACLCK_TOO_HEAVY, mask_at, 0, 0, 1);
     REFUSED(aclck_questions(heavy, 0, 0, TO), ACLCK_TOO_HEAVY, mask_at, 0, 0, 0);
     REFUSED(aclck_implies(heavy, IMPLICATION(1, 2, 0), &r.difference, room, &r.fault), ACLCK_TOO_HEAVY, mask_at, 0, 0, 0);
     REFUSED(aclck_encode(too_many, 0, TO), ACLCK_TOO_MANY_ACES, 0, MOST_ACES + 1, 1, 0);

@@ -4,9 +4,9 @@
  *     library_costs CALL INPUT GROUPS [shuffled]
  *
  * The requester has GROUPS groups, named h00000 and so on, in this order or in no order; `entries_to_form` has as many
- * names of users. INPUT is a file: a list, two lists of equal length for `same`, `compare`, `excess` and `restricted`, a
- * text, or an attribute for the calls over entries. What a call is given is prepared or read before it is counted. The
- * program is linked with --wrap for malloc and realloc.
+ * names of users. INPUT is a file: a list, two lists of equal length for the calls over two lists, a text, or an
+ * attribute for the calls over entries. What a call is given is prepared or read before it is counted. The program is
+ * linked with --wrap for malloc and realloc.
  */
 #include "aclck.h"
 #include <pthread.h>
@@ -151,6 +151,8 @@ static uint32_t invoke_list(const char *call, size_t len) {
         return aclck_with_groups(LIST, &suffix, ACLCK_FULL, OUT);
     if (IS("restricted"))
         return aclck_restricted(halves[0], &halves[1], ACLCK_FULL, OUT);
+    if (IS("restricted_everywhere"))
+        return aclck_restricted_everywhere(halves[0], &halves[1], ACLCK_FULL, OUT);
     if (IS("questions"))
         return aclck_questions(LIST, 10000, ACLCK_FULL, OUT);
     if (IS("read_form"))

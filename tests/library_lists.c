@@ -41,6 +41,7 @@ WRITER(exchange, aclck_renamed(g->acl, &g->table, g->options, out, needed, fault
 WRITER(name_owner, aclck_resolved(g->acl, &g->object, g->options, out, needed, fault))
 WRITER(name_groups, aclck_with_groups(g->acl, &g->suffix, g->options, out, needed, fault))
 WRITER(keep_under, aclck_restricted(g->acl, &g->bound, g->options, out, needed, fault))
+WRITER(keep_everywhere, aclck_restricted_everywhere(g->acl, &g->bound, g->options, out, needed, fault))
 WRITER(ask, aclck_questions(g->acl, g->most, g->options, out, needed, fault))
 WRITER(read_form, aclck_read_form(g->acl, g->form, out, needed, g->flags_read, fault))
 WRITER(write_form, aclck_write_form(g->acl, g->form, g->flags, out, needed, fault))
@@ -583,26 +584,42 @@ static int is_at_most(aclck_bytes list, aclck_bytes bound, uint32_t options) {
     return EXPECT(status == ACLCK_DONE || status == ACLCK_SHORT) && found.same;
 }
 
-/* Under itself a list is as it was. Under the list without its first ACE it grants at most what both grant, it is as it
-   was if it granted no more, and nothing goes a second time. */
-static void is_kept_under(aclck_bytes acl, uint32_t options, const aclck_ace *aces, size_t count) {
+/* The same of the list for what is created in a directory with each list, down to a depth. What is created below the
+   depth of 2 has lists of that depth (docs/proofs/proofs.md, "Paths of creations"). */
+static int is_at_most_down_to(int depth, aclck_bytes list, aclck_bytes bound, uint32_t options) {
+    int is = is_at_most(list, bound, options);
+    for (int is_directory = 0; depth > 0 && is_directory < 2; is_directory++) {
+        const uint32_t kind = is_directory ? ACLCK_DIRECTORY : 0;
+        const aclck_bytes child = without_memory(inherit, list_with(list, 0), options | kind),
+                          limit = without_memory(inherit, list_with(bound, 0), options | kind);
+        is = is_at_most_down_to(is_directory ? depth - 1 : 0, child, limit, options) && is;
+        free((void *)child.at);
+        free((void *)limit.at);
+    }
+    return is;
+}
+
+/* Under itself a list is as it was. Under the list without its first ACE it grants at most what both grant, down to the
+   depth, it is as it was if it granted no more, and nothing goes a second time. */
+static void is_kept_down_to(int depth, writer *keep, aclck_bytes acl, uint32_t options, const aclck_ace *aces,
+                            size_t count) {
     given rest = list_with(acl, options), g = rest;
     size_t len = 0;
     g.bound = acl;
-    writes(keep_under, &g, 1, acl.at, acl.len);
+    writes(keep, &g, 1, acl.at, acl.len);
     if (count == 0)
         return;
     rest.aces.at = aces + 1;
     rest.aces.len = count - 1;
     g.bound = without_memory(build, rest, options);
-    unsigned char *bytes = result_of(keep_under, &g, 1, &len);
+    unsigned char *bytes = result_of(keep, &g, 1, &len);
     const aclck_bytes left = aclck_bytes_of(bytes, len);
     if (EXPECT(bytes != NULL && len == acl.len)) {
-        EXPECT(is_at_most(left, acl, options) && is_at_most(left, g.bound, options));
-        EXPECT(are_equal(left, acl) == is_at_most(acl, g.bound, options));
-        writes(keep_under, &g, 1, bytes, len);
+        EXPECT(is_at_most_down_to(depth, left, acl, options) && is_at_most_down_to(depth, left, g.bound, options));
+        EXPECT(are_equal(left, acl) == is_at_most_down_to(depth, acl, g.bound, options));
+        writes(keep, &g, 1, bytes, len);
         g.acl = left;
-        writes(keep_under, &g, 1, bytes, len);
+        writes(keep, &g, 1, bytes, len);
     }
     free(bytes);
     free((void *)g.bound.at);
@@ -1079,6 +1096,37 @@ static void are_lists_restricted_by_hand(void) {
     }
 }
 
+/* RFC 8881, section 6.4.3: FILE_INHERIT is about new files, DIRECTORY_INHERIT about new directories, INHERIT_ONLY about
+   all but the object, and with NO_PROPAGATE_INHERIT what is created in a new directory inherits nothing. */
+static void are_new_objects_restricted_by_hand(void) {
+    static const struct {
+        const char *list, *bound, *left;
+    } rows[] = {
+        {"ALLOW FILE|INHERITONLY READ_DATA|WRITE_DATA bob\n", "ALLOW FILE READ_DATA EVERYONE@\n",
+         "ALLOW FILE|INHERITONLY READ_DATA bob\n"},
+        {"ALLOW FILE|INHERITONLY READ_DATA bob\n", "ALLOW DIR READ_DATA EVERYONE@\n",
+         "ALLOW FILE|INHERITONLY - bob\n"},
+        {"ALLOW DIR|INHERITONLY READ_DATA bob\n", "ALLOW DIR|NOPROP READ_DATA EVERYONE@\n",
+         "ALLOW DIR|INHERITONLY - bob\n"},
+        {"ALLOW FILE|DIR|NOPROP|INHERITONLY READ_DATA bob\n", "ALLOW FILE|DIR|NOPROP READ_DATA EVERYONE@\n",
+         "ALLOW FILE|DIR|NOPROP|INHERITONLY READ_DATA bob\n"},
+        {"ALLOW FILE READ_DATA bob\n", "ALLOW - READ_DATA EVERYONE@\n", "ALLOW FILE - bob\n"},
+        {"ALLOW - READ_DATA bob\n", "ALLOW FILE|DIR|INHERITONLY READ_DATA EVERYONE@\n", "ALLOW - - bob\n"},
+        {"DENY FILE|INHERITONLY READ_DATA bob\nALLOW FILE READ_DATA EVERYONE@\n",
+         "DENY FILE READ_DATA bob\nALLOW FILE READ_DATA EVERYONE@\n",
+         "DENY FILE|INHERITONLY READ_DATA bob\nALLOW FILE - EVERYONE@\n"},
+        {"DENY FILE READ_DATA bob\nALLOW FILE|DIR READ_DATA amy\n",
+         "DENY FILE READ_DATA bob\nALLOW FILE|DIR READ_DATA EVERYONE@\n",
+         "DENY FILE READ_DATA bob\nALLOW FILE|DIR READ_DATA amy\n"},
+    };
+    for (size_t i = 0; i < sizeof rows / sizeof *rows; i++) {
+        const aclck_bytes left = list_of(rows[i].left);
+        given g = list_with(list_of(rows[i].list), 0);
+        g.bound = list_of(rows[i].bound);
+        writes(keep_everywhere, &g, 1, left.at, left.len);
+    }
+}
+
 /* RFC 4506, section 4.10. */
 static unsigned char *put_name(unsigned char *at, const char *name, size_t len) {
     const size_t padded = (len + 3) / 4 * 4;
@@ -1432,10 +1480,10 @@ static void are_bad_ids_refused(void) {
 
 static void are_bad_options_refused(void) {
     static writer *const writers[] = {prepare, prepare_ids, build, set_mode, exchange, name_owner, name_groups,
-                                     keep_under, ask, inherit};
+                                     keep_under, keep_everywhere, ask, inherit};
     static const uint32_t own[] = {ACLCK_NARROW, ACLCK_NARROW, ACLCK_NARROW, ACLCK_NARROW,
                                    ACLCK_NARROW | ACLCK_MAY_MERGE, ACLCK_NARROW, ACLCK_NARROW, ACLCK_NARROW,
-                                   ACLCK_NARROW,
+                                   ACLCK_NARROW, ACLCK_NARROW,
                                    ACLCK_NARROW | ACLCK_DIRECTORY | ACLCK_MARK_INHERITED};
     const aclck_bytes list = list_of("ALLOW - READ_DATA 7\n");
     for (size_t i = 0; i < sizeof writers / sizeof *writers; i++)
@@ -1622,6 +1670,7 @@ static void test_list(aclck_bytes acl, uint32_t options) {
         refuses(exchange, &g, 1, fault);
         refuses(name_owner, &g, 1, fault);
         refuses(keep_under, &g, 1, fault);
+        refuses(keep_everywhere, &g, 1, fault);
         refuses(ask, &g, 1, fault);
         return;
     }
@@ -1633,7 +1682,8 @@ static void test_list(aclck_bytes acl, uint32_t options) {
     is_mode_set(acl, options, &p);
     is_exchanged_back(acl, options, &p);
     if (acl.len < 2000) {
-        is_kept_under(acl, options, aces, count);
+        is_kept_down_to(0, keep_under, acl, options, aces, count);
+        is_kept_down_to(2, keep_everywhere, acl, options, aces, count);
         is_asked_completely(acl, options);
     }
     if (options == 0)
@@ -1650,7 +1700,7 @@ static void run_rows(void) {
         TEST(are_owners_named_by_hand), TEST(are_wrong_aces_refused), TEST(are_unknown_names_answered_by_hand),
         TEST(are_long_lists_answered_by_hand), TEST(are_prepared_bytes_those_of_the_form),
         TEST(are_groups_put_for_names_by_hand), TEST(are_lists_restricted_by_hand),
-        TEST(are_questions_asked_by_hand),
+        TEST(are_new_objects_restricted_by_hand), TEST(are_questions_asked_by_hand),
         TEST(are_forms_read_and_written_by_hand), TEST(are_other_values_refused), TEST(are_aces_left_out), TEST(are_lists_kept_out_of_forms),
         TEST(are_bad_questions_refused), TEST(are_lengths_judged), TEST(are_bad_ids_refused),
         TEST(are_bad_options_refused),

@@ -159,6 +159,8 @@ void f(aclck_bytes acl, aclck_object object, aclck_requester who, aclck_question
     use(aclck_renamed(acl, &names, ACLCK_FULL, out, &needed, &fault));
 /* misuse: a bound by value */
     use(aclck_restricted(acl, acl, ACLCK_FULL, out, &needed, &fault));
+/* misuse: a bound of all that is created, by value */
+    use(aclck_restricted_everywhere(acl, acl, ACLCK_FULL, out, &needed, &fault));
 /* misuse: the place for a number as the greatest number of questions */
     use(aclck_questions(acl, &granted, ACLCK_FULL, out, &needed, &fault));
 /* misuse: masks in place of decisions */

@@ -142,11 +142,11 @@ static void validate(Acl *acl)
 
 static Acl access_acl, default_acl;
 
-static void read_file(void)
+/* Reads a text, behind which a line feed may be written. */
+static void read_entries(u8 *text, size_t len)
 {
-    read_all();
-    in.bytes[in.len] = '\n';
-    const u8 *at = in.bytes, *last = at + in.len;
+    const u8 *at = text, *last = at + len;
+    text[len] = '\n';
     while (at < last) {
         Field fields[4];
         int count, is_default;
@@ -178,6 +178,12 @@ static void read_file(void)
     validate(&access_acl);
     if (default_acl.count)
         validate(&default_acl);
+}
+
+static void read_file(void)
+{
+    read_all();
+    read_entries(in.bytes, in.len);
 }
 
 static void names_in(int argc, char **argv)

@@ -51,7 +51,8 @@ _QUESTIONS: Dict[str, Tuple[str, List[_Argument]]] = {
     "holders": ("who has a right by an NFSv4 list, in words", [_RIGHT, _LIST]),
     "needed": ("which rights of an NFSv4 list decide something, and which can go", [_LIST]),
     "restrict": ("what an NFSv4 list keeps under a bound, which is a list too", [
-        _LIST, ("bound", dict(metavar="BOUND", help="the same"))]),
+        _LIST, ("bound", dict(metavar="BOUND", help="the same")),
+        ("--inherit", dict(action="store_true", help="bound everything that will be created below the object too"))]),
     "who": ("which of some people have a right", [
         ("right", dict(metavar="RIGHT", help="rights with | between them, or letters of rwx for a POSIX ACL")), _LIST,
         ("--people", dict(metavar="FILE", required=True, help=PEOPLE_HELP)),

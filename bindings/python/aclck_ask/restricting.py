@@ -17,14 +17,14 @@ from .lists import INHERITED
 
 
 def restrict(args: argparse.Namespace, accounts: Optional[SystemIds]) -> Reply:
-    """Answers what a list keeps under a bound, and which rights of which ACEs it loses. Raises TreeError if that is not
-    known."""
+    """Answers what a list keeps under a bound, and which rights of which ACEs it loses. With --inherit, the bound also
+    counts for everything that is created. Raises TreeError if that is not known."""
     if any(form in POSIX for form in args.forms):
         raise TreeError(f"{args.question} asks NFSv4 lists")
     given = compared(args, accounts)
     acl, bound = given[0].acl, given[1].acl
     assert isinstance(acl, NfsAcl) and isinstance(bound, NfsAcl)
-    kept = acl.restricted(bound)
+    kept = acl.restricted(bound, everywhere=args.inherit)
     rows: List[Dict[str, Any]] = []
     for place, (ace, left, text) in enumerate(zip(acl, kept, str(kept).split("\n"))):
         rows.append({"ace": place, "taken": mask_text(ace.mask & ~left.mask), "inherits": bool(ace.flags & INHERITED),
@@ -33,4 +33,4 @@ def restrict(args: argparse.Namespace, accounts: Optional[SystemIds]) -> Reply:
     cells = [(str(row["ace"]), row["taken"], "yes" if row["inherits"] else "no", row["text"]) for row in rows]
     inherits = any(one.inherits for one in given)
     return Reply(YES, {"aces": rows, "inherits": inherits}, table([*heads, *cells], right=[0]),
-                 INHERITANCE if inherits else "")
+                 INHERITANCE if inherits and not args.inherit else "")

@@ -22,6 +22,8 @@ from aclck_tree.scan.reader import ATTRIBUTES, Reader, ScanOptions
 from aclck_tree.snapshot.others import UNREAD
 from aclck_tree.snapshot.snapshot import StoredList
 
+from .asking import access
+
 
 class Resolved(NamedTuple):
     """The list for one object, by ids (docs/reference/lists.md, "For one object"). Of a POSIX ACL, which is `posix`, it
@@ -49,10 +51,10 @@ class Probed(NamedTuple):
     @property
     def key(self) -> Hashable:
         """What two objects have in common that are asked once: the mount, the kind, the sticky bit, the owner, the
-        group and the list."""
-        status = self.status
+        group, the list, and what root may do, which shows that one is immutable."""
+        status, of_root = self.status, tuple(access(self.handle, want) for want in (4, 2, 1))
         return (self.mount, status.st_dev, stat.S_IFMT(status.st_mode), status.st_mode & stat.S_ISVTX, status.st_uid,
-                status.st_gid, self.stored)
+                status.st_gid, self.stored, of_root)
 
     def require_same(self) -> None:
         """Raises TreeError if the object was changed since its list was read, and OSError."""

@@ -81,6 +81,11 @@ def first_few(names: Collection[_Named], shown: Callable[[_Named], str]) -> str:
     return ", ".join(map(shown, itertools.islice(names, _SHOWN))) + more
 
 
+def shortened(text: str, most: int = 200) -> str:
+    """Returns a text without its middle if it is long."""
+    return text if len(text) <= most else f"{text[:most // 2]} … {text[-most // 2:]}"
+
+
 def quoted_line(text: str) -> str:
     """Returns a text on one line, with `\\u202e` or `\\xff` in place of each character that is not shown or not UTF-8.
     All lines that the program writes for people pass through it, so that no text from outside can forge one."""

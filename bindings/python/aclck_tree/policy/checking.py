@@ -5,6 +5,7 @@ from __future__ import annotations
 import argparse
 import functools
 import itertools
+from dataclasses import replace
 from typing import Dict, Iterator, List, NamedTuple, Optional, Set, Tuple
 
 from aclck_tree.answer import mentions
@@ -13,7 +14,7 @@ from aclck_tree.answer.commands import asker_of, opened, people_of, status_of
 from aclck_tree.answer.objects import left_out
 from aclck_tree.answer.obtain import Place
 from aclck_tree.answer.reach import tell_above
-from aclck_tree.output.errors import NO, REFUSED, YES
+from aclck_tree.output.errors import NO, REFUSED, YES, TreeError
 from aclck_tree.output.text import ObjectName, ObjectNamer, Output, Row, plural, quoted, tell
 from aclck_tree.people.people import stranger_of
 from aclck_tree.policy.fix_files import refuse_fix
@@ -33,7 +34,7 @@ class Applied(NamedTuple):
 
 
 _MOST_KNOWN = 1_000_000
-"""How many answers are kept about faces and rules."""
+"""How many answers are kept about faces and rules, and how many different ones share lines."""
 
 
 class Policy:
@@ -178,6 +179,11 @@ class _Found(NamedTuple):
     applied: Applied
     breaches: Tuple[Breach, ...]
 
+    @property
+    def is_unknown(self) -> bool:
+        """Whether something is not known about an object that is no exception."""
+        return self.verdict != _EXCEPTED and any(one.verdict is Verdict.UNKNOWN for one in self.breaches)
+
 
 class _Check:
     """The answers of the command about the objects of a snapshot."""
@@ -255,15 +261,21 @@ def policy(args: argparse.Namespace) -> int:
     check = _Check(asker_of(args, snapshot, people_of(args, snapshot)), rules)
     counts = check.count()
     out = Output(args.form, check.naming.columns(*_COLUMNS), lambda row: None)
+    has_classes = args.form == "text" and not args.each  # objects about which the same is found share a line
     classes: Dict[_Found, Counted] = {}
     tally: Dict[str, int] = {}
+    is_unknown = False
     for key, one in counts.items():
         for found in check.found(key):
             tally[found.verdict] = tally.get(found.verdict, 0) + one.objects
-            if found.verdict != _KEPT:
+            is_unknown = is_unknown or found.is_unknown
+            if has_classes and found.verdict != _KEPT:
                 known = classes.get(found, Counted(0, one.first))
                 classes[found] = Counted(known.objects + one.objects, min(known.first, one.first))
-    if args.form == "text" and not args.each:
+        if len(classes) > _MOST_KNOWN:
+            raise TreeError(f"{quoted(args.policy)}: objects break the rules in more than {_MOST_KNOWN:,} ways: "
+                            "--each, --json and --csv write one object after another")
+    if has_classes:
         order = sorted(classes.items(), key=lambda item: (_ORDER.index(item[0].verdict), item[0].applied.rule,
                                                           -item[1].objects, item[1].first))
         for found, one in order:
@@ -272,8 +284,6 @@ def policy(args: argparse.Namespace) -> int:
         _put_each(args, check, out)
     if check.policy.is_about_obtaining:
         tell_above(check.asker)
-    is_unknown = any(one.verdict is Verdict.UNKNOWN for found in classes if found.verdict != _EXCEPTED
-                     for one in found.breaches)
     status = NO if tally.get(Verdict.BROKEN.value) else YES
     has_empty = _ended(args, check, counts, tally, out)
     is_unmended = args.fix is not None and not _fix(args, check, counts, out)
@@ -287,7 +297,8 @@ def _fix(args: argparse.Namespace, check: _Check, counts: Dict[_Key, Counted], o
         broken = [check.policy.rules[found.applied.rule].name for found in check.found(key)
                   if found.verdict == Verdict.BROKEN]
         if broken:
-            rules = [check.policy.rules[applied.rule] for applied in key.applied if applied.exemption is None]
+            applying = (check.policy.rules[applied.rule] for applied in key.applied if applied.exemption is None)
+            rules = [replace(rule, children=rule.children and key.is_directory) for rule in applying]
             fixing.mend(key, one, key.face, rules, broken, functools.partial(check.not_kept, key))
     for line in fixing.write(check.keys()):
         out.note(line)

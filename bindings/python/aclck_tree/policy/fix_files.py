@@ -42,7 +42,7 @@ def refuse_fix(place: str, snapshot: Snapshot) -> None:
 def _directory(place: str) -> Iterator[int]:
     """Opens an empty directory. Raises TreeError if there is something else, or if others may write in it."""
     try:
-        handle = os.open(place, os.O_RDONLY | os.O_DIRECTORY | os.O_NOFOLLOW | os.O_CLOEXEC)
+        handle = os.open(place.rstrip("/"), os.O_RDONLY | os.O_DIRECTORY | os.O_NOFOLLOW | os.O_CLOEXEC)
     except OSError as error:
         raise TreeError(f"{quoted(place)}: {error.strerror}") from None
     try:
@@ -74,9 +74,8 @@ class FixDirectory:
                 if lists:
                     _put(handle, "lists", [json.dumps(list(self._rows(lists))).encode()])
                     _put(handle, "paths", (b"%d %s\0" % one for one in objects))
-                    script = _INTERPRETER + (pkgutil.get_data("aclck_tree.policy", "set_lists.py") or b"")
                     for name in ("undo", "apply"):
-                        _put(handle, name, [script], 0o700)
+                        _put(handle, name, [_INTERPRETER, _script()], 0o700)
         except OSError as error:
             raise DeviceError(f"{quoted(self._place)}: {error.strerror or error}") from None
 
@@ -86,8 +85,17 @@ class FixDirectory:
             yield {"root": root.hex(), "uid": one.uid, "gid": one.gid, "old": one.old.hex(), "new": one.new.hex()}
 
 
+def _script() -> bytes:
+    """Returns the script that sets lists. Raises DeviceError if it is not there: without it, `apply` would end well."""
+    found = pkgutil.get_data("aclck_tree.policy", "set_lists.py")
+    if not found:
+        raise DeviceError("set_lists.py, the script of --fix, is not installed")
+    return found
+
+
 def _put(handle: int, name: str, parts: Iterable[bytes], mode: int = 0o600) -> None:
-    """Writes a new file of a directory."""
+    """Writes a new file of a directory, which has its name when it is whole: a part of a script could end well."""
     flags = os.O_WRONLY | os.O_CREAT | os.O_EXCL | os.O_NOFOLLOW | os.O_CLOEXEC
-    with open(os.open(name, flags, mode, dir_fd=handle), "wb") as file:
+    with open(os.open(f"{name}.part", flags, mode, dir_fd=handle), "wb") as file:
         file.writelines(parts)
+    os.rename(f"{name}.part", name, src_dir_fd=handle, dst_dir_fd=handle)

@@ -122,8 +122,7 @@ class _Kept:
     """What is kept about one face: its list for the object itself (None) and what is certain of it, the text of its
     ACEs, and what was judged."""
 
-    def __init__(self, face: Optional[Face]) -> None:
-        self.face = face
+    def __init__(self) -> None:
         self.lists: Dict[Optional[bool], _Held] = {}
         self.judged: Dict[Tuple[int, bool], Optional[Breach]] = {}
         self.lines: List[str] = []
@@ -144,7 +143,8 @@ class Judge:
         self._asker = asker
         self._limits = Limits(asker)
         self._stranger = stranger
-        self._kept = _Kept(None)
+        self._view: Optional[_View] = None
+        self._kept = _Kept()
         self._bounds: Dict[Tuple[int, str, str], _Held] = {}
         self._children: Dict[Tuple[int, bool, int, int], Tuple[Breach, ...]] = {}
 
@@ -167,9 +167,10 @@ class Judge:
         if isinstance(limit, Unjudged):
             yield Breach(Verdict.UNKNOWN, bound_word(is_most), reason=limit.reason)
             return
-        if self._kept.face is not face:
-            self._kept = _Kept(face)
-        view = _View(asked, face, *self._asker.owner_and_group(face, asked.kind))
+        view = self._view
+        if view is None or view.face is not face:
+            view = self._view = _View(asked, face, *self._asker.owner_and_group(face, asked.kind))
+            self._kept = _Kept()
         judged = self._kept.judged
         if (id(limit), is_most) not in judged:
             judged[id(limit), is_most] = self._judged(_Case(view, limit, is_most))

@@ -17,7 +17,8 @@ _OF_POSIX = READ_DATA | WRITE_DATA | APPEND_DATA | EXECUTE
 
 _Name = Union[str, bytes]
 
-_SPECIAL = ("OWNER@", "GROUP@", "EVERYONE@")
+SPECIAL = ("OWNER@", "GROUP@", "EVERYONE@")
+"""The names that are those of no user and no group."""
 
 
 class Limit(NamedTuple):
@@ -115,7 +116,7 @@ class Limits:
         groups: Dict[_Name, _Name] = {}
         missing = []
         for ace in acl:
-            if ace.who not in _SPECIAL:
+            if ace.who not in SPECIAL:
                 number = self._id(ace.is_group, ace.who, tree)
                 (groups if ace.is_group else users)[ace.who] = str(number)
                 missing += [ace.who] if number is None else []

@@ -1,6 +1,7 @@
 """Mends the lists that break a policy, for `policy --fix`. The library says what a list keeps under the bounds of
-rules: of all lists that are made by taking rights out of ALLOWs, and that grant at most what the bounds grant, the one
-that keeps most. Who loses what is asked too. Nothing here changes a file."""
+rules: of all lists that are made by taking rights out of ALLOWs, and that grant at most what the bounds grant, also on
+what is created in a directory if a rule is about that, the one that keeps most. Who loses what is asked too. Nothing
+here changes a file."""
 
 from __future__ import annotations
 
@@ -15,9 +16,11 @@ from aclck_tree.answer.ask import Asker
 from aclck_tree.answer.compare import named_of
 from aclck_tree.answer.lists import AskableList, Kind, RefusedList, joined, pieces
 from aclck_tree.output.text import first_few, plural, quoted
-from aclck_tree.policy.limits import Limit, Limits
+from aclck_tree.policy.limits import SPECIAL, Limit, Limits
 from aclck_tree.policy.policies import Rule
 from aclck_tree.snapshot.snapshot import Face, StoredForm, StoredList
+
+_INHERITED = AceFlag.FILE_INHERIT | AceFlag.DIRECTORY_INHERIT
 
 
 class Mended(NamedTuple):
@@ -46,8 +49,9 @@ class Mender:
         self._faces: Dict[Tuple[int, bytes], Face] = {}
 
     def mend(self, number: int, rules: Sequence[Rule], judged: Callable[[int], List[str]]) -> Outcome:
-        """Returns a face with the greatest list that these rules let it keep. `judged` says of a face how it does not
-        keep the rules: if the mended one does not, it is of no use."""
+        """Returns a face with the greatest list that these rules let it keep. `children` of a rule is true only if the
+        object is a directory. `judged` says of a face how it does not keep the rules: if the mended one does not, it is
+        of no use."""
         face = self._asker.faces[number]
         stored, asked = self._asker.stored[face.list], self._asker.ready(face.list)
         if isinstance(asked, RefusedList):
@@ -56,10 +60,10 @@ class Mender:
             return Unmended(("POSIX ACL",))
         if stored.kind != StoredForm.NFS4 or stored.mode:
             return Unmended(("the list is in another form than that of system.nfs4_acl",))
-        found = (self._limits.of(rule, True, asked.kind, face.tree) for rule in rules if rule.at_most is not None)
-        limits = tuple(one for one in found if isinstance(one, Limit))
+        limits = self._limits_of(rules, face, asked.kind)
+        below = self._limits_of([rule for rule in rules if rule.children], face, asked.kind)
         try:
-            kept = self._kept(face, asked, limits)
+            kept = _kept_below(self._kept(face, asked, limits), below)
         except ValueError as error:  # a name of the owner or the group cannot be in a list
             return Unmended((str(error),))
         masks = dict(zip(asked.places, (ace.mask for ace in kept)))
@@ -69,16 +73,21 @@ class Mender:
         reasons = judged(new.face)
         return Unmended(tuple(reasons)) if reasons else Mended(face, new, limits)
 
+    def _limits_of(self, rules: Sequence[Rule], face: Face, kind: Kind) -> Tuple[Limit, ...]:
+        """Returns the lists of what rules let a list grant at most."""
+        found = (self._limits.of(rule, True, kind, face.tree) for rule in rules if rule.at_most is not None)
+        return tuple(one for one in found if isinstance(one, Limit))
+
     def _kept(self, face: Face, asked: AskableList, limits: Sequence[Limit]) -> NfsAcl:
-        """Returns what a list keeps under some bounds, with the owner and the group of the object in place of OWNER@
-        and GROUP@. The bounds come one after another. Each step grants at most what the step before grants, so the
-        result is within all bounds. It is the same in any order: each list that is within all bounds, and is made by
-        taking rights out of ALLOWs, can be made of what a step leaves."""
+        """Returns what a list keeps under some bounds of the object, where the owner and the group of the object are in
+        place of OWNER@ and GROUP@. The bounds come one after another. Each step grants at most what the step before
+        grants, so the result is within all bounds. It is the same in any order: each list that is within all bounds,
+        and is made by taking rights out of ALLOWs, can be made of what a step leaves."""
         owner, group = self._asker.owner_and_group(face, asked.kind)
         kept = asked.acl.resolved(owner=owner, group=group)
         for limit in limits:
             kept = kept.restricted(limit.acl.resolved(owner=owner, group=group))
-        return kept
+        return NfsAcl.from_aces(ace._replace(mask=one.mask) for ace, one in zip(asked.acl, kept))
 
     def _with_list(self, face: Face, data: bytes) -> Face:
         """Returns a face with another list, which the asker can be asked about. No object has it."""
@@ -96,8 +105,15 @@ class Mender:
             taken = mask_text(was.mask & ~now.mask) if was.mask != now.mask else ""
             yield f"ACE {place}: {line}" + (f", without {taken}" if taken else "")
         yield from self._losses(mended, old, new)
-        whole = [str(place) for place, ace in zip(new.places, new.acl)
-                 if ace.kind == ALLOW and ace.flags & AceFlag.INHERIT_ONLY]
+        less: List[str] = []
+        whole: List[str] = []
+        for place, was, now in zip(new.places, old.acl, new.acl):
+            if was.mask != now.mask and now.flags & _INHERITED:
+                less.append(str(place))
+            elif now.kind == ALLOW and now.flags & AceFlag.INHERIT_ONLY:
+                whole.append(str(place))
+        if less:
+            yield f"new objects get less by ACE {', '.join(less)}"
         if whole:
             yield f"new objects get what ACE {', '.join(whole)} grants, as before: INHERIT_ONLY"
 
@@ -117,9 +133,9 @@ class Mender:
         rows: Dict[Tuple[int, int], List[int]] = {}
         unknown = 0
         for person, (before, after, *let) in enumerate(zip(*columns)):
-            unknown += before is None or after is None
-            lost = (before or 0) & ~(after or 0)
-            if lost:
+            if before is None or after is None:
+                unknown += 1
+            elif lost := before & ~after:
                 kept = functools.reduce(operator.and_, (one or 0 for one in let), ALL)
                 rows.setdefault((lost, lost & kept), []).append(person)
         for (lost, needless), people in rows.items():
@@ -136,17 +152,34 @@ class Mender:
         """Returns who loses something and is none of the people: nobody if the old list grants at most what the new one
         grants together with what they lose."""
         given = [Ace(ALLOW, AceFlag(0), lost, identity.user) for person, lost in losers.items()
-                 for identity in self._asker.identities(self._asker.people[person], face, Kind.NFS4, asked.acl)]
+                 for identity in self._asker.identities(self._asker.people[person], face, Kind.NFS4, asked.acl)
+                 if identity.user not in SPECIAL]
         try:
             helped = NfsAcl.from_aces([*given, *new])
         except ValueError:  # the list would be too long
             return "it is not known whether others lose something too"
         found = old.exceeds(helped)
         if found is None:
-            return "nobody else loses anything"
+            return f"nobody {'else ' if losers else ''}loses anything"
         owner, group = self._asker.owner_and_group(face, Kind.NFS4)
         before, after = (one.granted(user=found.user, groups=found.groups, owner=owner, group=group)
                          for one in (old, helped))
         special = {stand_in: name for name, stand_in in asked.specials}
         words = named_of(found._replace(owner=owner, group=group), special, {ace.who for ace in old})
         return f"others lose something too: {words} loses {mask_text(before & ~after)}"
+
+
+def _kept_below(kept: NfsAcl, limits: Sequence[Limit]) -> NfsAcl:
+    """Returns what the list of a directory keeps under some bounds of everything that will be created below it. Owners
+    and groups there are not known, so OWNER@ and GROUP@ stay."""
+    for limit in limits:
+        kept = kept.restricted(_bound_below(limit.acl), everywhere=True)
+    return kept
+
+
+def _bound_below(bound: NfsAcl) -> NfsAcl:
+    """Returns the list by which everything that is created below a directory has what a bound grants, and by which the
+    directory itself grants everything."""
+    below = [ace._replace(flags=ace.flags & AceFlag.IDENTIFIER_GROUP | _INHERITED) for ace in bound
+             if not ace.flags & AceFlag.INHERIT_ONLY]
+    return NfsAcl.from_aces([Ace(ALLOW, AceFlag(0), ALL, "EVERYONE@"), *below])

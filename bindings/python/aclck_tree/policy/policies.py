@@ -26,7 +26,7 @@ from aclck import (
 
 from aclck_tree.output.errors import TreeError
 from aclck_tree.output.files import opened_file
-from aclck_tree.output.text import quoted
+from aclck_tree.output.text import quoted, shortened
 from aclck_tree.snapshot.globs import PathPattern, judge_patterns, path_pattern
 
 if sys.version_info >= (3, 11):
@@ -144,7 +144,7 @@ class _Table:
         try:
             return path_pattern(text), text
         except ValueError as error:
-            self.refuse(f"path {quoted(text)}: {error}")
+            self.refuse(f"path {shortened(quoted(text))}: {error}")
 
     def flag(self, key: str) -> bool:
         """Takes a flag, which is false if it is not there."""

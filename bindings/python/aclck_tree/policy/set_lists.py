@@ -14,7 +14,7 @@ import json
 import os
 import stat
 import sys
-from typing import BinaryIO, List, NamedTuple, Optional, Sequence
+from typing import BinaryIO, Iterator, List, NamedTuple, Optional, Sequence
 
 _OBJECT = os.O_PATH | os.O_NOFOLLOW | os.O_CLOEXEC
 _DIRECTORY = _OBJECT | os.O_DIRECTORY
@@ -103,19 +103,62 @@ class Setter:
         if self._record:
             self._record.write(b"%d %d %s\0" % (one.number, status.st_ino, one.path))
             self._record.flush()
-        os.setxattr(place, self._attribute, after)
-        if os.getxattr(place, self._attribute) != after:
+        self._exchange(place, before, after)
+        return True
+
+    def _exchange(self, place: str, before: bytes, after: bytes) -> None:
+        """Gives an object another list. Raises NotSet if the object does not have it then, and OSError if it still has
+        the list from before."""
+        try:
+            os.setxattr(place, self._attribute, after)
+        except OSError:
+            if self._has(place, before):
+                raise
+        if not self._has(place, after):
             with contextlib.suppress(OSError):
                 os.setxattr(place, self._attribute, before)
-            is_back = os.getxattr(place, self._attribute) == before
-            raise NotSet("the server keeps another list than it is given, so the list " + (
-                "is the one from before" if is_back else "may be another one now: look at it"))
-        return True
+            raise NotSet("the server keeps or shows another list than it is given, so the list " + (
+                "is the one from before" if self._has(place, before) else "may be another one now: look at it"))
+
+    def _has(self, place: str, data: bytes) -> bool:
+        """Whether an object has a list, and shows it."""
+        with contextlib.suppress(OSError):
+            return os.getxattr(place, self._attribute) == data
+        return False
 
 
 def _read(directory: str, name: str) -> bytes:
     with open(os.path.join(directory, name), "rb") as file:
         return file.read()
+
+
+def _rows(directory: str, is_undo: bool) -> bytes:
+    """Returns the rows of the objects to set, each of which ends with a zero byte. Raises OSError, and ValueError if
+    `paths` is cut short."""
+    if is_undo:
+        return _read(directory, "applied") if os.path.exists(os.path.join(directory, "applied")) else b""
+    data = _read(directory, "paths")
+    if not data.endswith(b"\0"):
+        raise ValueError("paths is cut short")
+    return data
+
+
+def _from_the_last(rows: bytes) -> Iterator[bytes]:
+    """Yields rows, the last one first. A list of millions of them would need much more memory."""
+    end = rows.rfind(b"\0")
+    while end >= 0:
+        start = rows.rfind(b"\0", 0, end) + 1
+        yield rows[start:end]
+        end = start - 1
+
+
+def _record(path: str) -> BinaryIO:
+    """Opens the file `applied` to write behind its rows. A last row that is cut short goes: its object was not set."""
+    flags = os.O_RDWR | os.O_CREAT | os.O_APPEND | os.O_NOFOLLOW | os.O_CLOEXEC
+    file = open(os.open(path, flags, 0o600), "a+b")
+    file.seek(0)
+    file.truncate(file.read().rfind(b"\0") + 1)
+    return file
 
 
 def mendings_in(directory: str) -> List[Mending]:
@@ -126,15 +169,17 @@ def mendings_in(directory: str) -> List[Mending]:
 
 def run(directory: str, is_undo: bool, attribute: str) -> int:
     """Sets the lists of all objects, and returns the exit status."""
-    mendings, path = mendings_in(directory), os.path.join(directory, "applied")
-    rows = _read(directory, "applied" if is_undo else "paths") if not is_undo or os.path.exists(path) else b""
-    objects = [ObjectToSet.read(row, mendings, is_undo) for row in rows.split(b"\0")[:-1]]
-    flags = os.O_WRONLY | os.O_CREAT | os.O_APPEND | os.O_NOFOLLOW | os.O_CLOEXEC
-    setter = Setter(attribute, None if is_undo else open(os.open(path, flags, 0o600), "ab"))
+    mendings, rows = mendings_in(directory), _rows(directory, is_undo)
+
+    def objects() -> Iterator[ObjectToSet]:
+        return (ObjectToSet.read(row, mendings, is_undo) for row in _from_the_last(rows))
+    for _ in objects():
+        pass  # nothing is set if a row is none
+    setter = Setter(attribute, None if is_undo else _record(os.path.join(directory, "applied")))
     counts = {True: 0, False: 0}
     failed = 0
     # Directories come behind what is in them, so that whoever loses EXECUTE on one has done the rest before.
-    for one in reversed(objects):
+    for one in objects():
         try:
             counts[setter.set(one)] += 1
         except (OSError, NotSet) as error:
@@ -154,7 +199,7 @@ def main(words: Optional[Sequence[str]] = None) -> int:
         parser.error("the name of this file is neither apply nor undo")
     try:
         return run(directory, name == "undo", args.attribute)
-    except (OSError, ValueError, LookupError, TypeError) as error:
+    except (OSError, ValueError, LookupError, TypeError, RecursionError) as error:
         print(f"{name}: {error}", file=sys.stderr)
         return 2
 

@@ -11,10 +11,10 @@ from typing import TYPE_CHECKING, Iterator, List, Tuple
 
 from aclck_tree.answer.lists import AskableList
 from aclck_tree.answer.reach import root_note
-from aclck_tree.output.text import plural, quoted, quoted_host, quoted_line, quoted_path
+from aclck_tree.output.text import plural, quoted, quoted_host, quoted_line, quoted_path, shortened
 from aclck_tree.people.people import Person, system_accounts
 from aclck_tree.report.findings import Finding
-from aclck_tree.report.rows import Level, Name, PageRow, Shown, columns_of, shortened, shown
+from aclck_tree.report.rows import Level, Name, PageRow, Shown, columns_of, shown
 
 if TYPE_CHECKING:
     from aclck_tree.report.report import Places, Report

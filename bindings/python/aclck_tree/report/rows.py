@@ -11,16 +11,13 @@ from typing import Dict, Iterator, List, Optional, Set, Tuple
 from aclck import APPEND_DATA, DELETE_CHILD, EXECUTE, READ_DATA, WRITE_DATA
 
 from aclck_tree.answer.lists import Kind
-from aclck_tree.output.text import quoted
+from aclck_tree.output.text import quoted, shortened
 
 MOST_ROWS = 5000
 """How many rows are kept. Exceptions beyond them are counted alone."""
 
 NAMED = 20
 """How many of the objects at which a row begins are named."""
-
-LONGEST_NAME = 200
-"""How many letters of a name or of other words of a snapshot the page shows."""
 
 _WHOLE = {Kind.POSIX: READ_DATA | WRITE_DATA | APPEND_DATA | EXECUTE, Kind.NFS4: 0x1F01FF}
 
@@ -63,11 +60,6 @@ def level_by(has_all: bool, may_change: bool, may_read: bool) -> Level:
     if may_change:
         return Level.WRITE if may_read else Level.WRITE_ONLY
     return Level.READ if may_read else Level.NONE
-
-
-def shortened(text: str, most: int = LONGEST_NAME) -> str:
-    """Returns a text without its middle if it is long."""
-    return text if len(text) <= most else f"{text[:most // 2]} … {text[-most // 2:]}"
 
 
 def name_of(path: bytes) -> str:
