@@ -12,11 +12,11 @@ declare -gA _aclck_tree_options=(
     [same]='--inherit --path --each --csv --raw --json'
     [diff]='--people --passwd --group --getent --skip-system --people-then --path --pair --each --domain --csv --raw
         --json'
-    [policy]='--people --passwd --group --getent --skip-system --each --fix --domain --linux --draft --csv --raw
-        --json'
+    [policy]='--people --passwd --group --getent --skip-system --each --fix --judgements --domain --linux --draft --csv
+        --raw --json'
     [load]='--dsn --as-superuser --people --passwd --group --getent --skip-system --domain --reach'
-    [report]='-o --path --reach --policy --people --passwd --group --getent --skip-system --domain --linux --draft
-        --csv --raw --json'
+    [report]='-o --path --reach --policy --judgements --people --passwd --group --getent --skip-system --domain --linux
+        --draft --csv --raw --json'
 )
 
 _aclck_tree_rights='READ_DATA LIST_DIRECTORY WRITE_DATA ADD_FILE APPEND_DATA ADD_SUBDIRECTORY READ_NAMED_ATTRS

@@ -61,6 +61,7 @@ complete -c aclck-tree -n '__fish_seen_subcommand_from who may why policy report
 complete -c aclck-tree -n '__fish_seen_subcommand_from who policy report' -l draft -d 'Ask POSIX ACLs as acl(5) says'
 complete -c aclck-tree -n '__fish_seen_subcommand_from who same diff policy' -l each -d 'One line per object'
 complete -c aclck-tree -n '__fish_seen_subcommand_from policy' -l fix -r -d 'Write mended lists here'
+complete -c aclck-tree -n '__fish_seen_subcommand_from policy report' -l judgements -x -d 'How many may be made'
 complete -c aclck-tree -n '__fish_seen_subcommand_from load' -l dsn -x -d 'The database'
 complete -c aclck-tree -n '__fish_seen_subcommand_from load' -l as-superuser -d 'Load although the role is a superuser'
 complete -c aclck-tree -n '__fish_seen_subcommand_from diff' -l pair -x -d 'These are one tree, OLD=NEW'

@@ -76,6 +76,8 @@ _LINUX_OR_DRAFT: _Arguments = [
     [("--linux", dict(action="store_true", help="ask POSIX ACLs as Linux does where their mask is empty, as is done "
                       "anyway if this host was scanned")),
      ("--draft", dict(action="store_true", help="ask POSIX ACLs as acl(5) says"))]]
+_JUDGEMENTS: _Argument = ("--judgements", dict(type=int, default=1_000_000, metavar="N", help="how many judgements of "
+                                               "lists by bounds of the policy may be made (1,000,000)"))
 _FORM: _Arguments = [
     [("--csv", dict(dest="form", action="store_const", const=Form.CSV, default=Form.TEXT,
                     help="write CSV, one line per object or answer")),
@@ -185,7 +187,7 @@ _WORDS: Dict[str, _Word] = {
             ("--each", dict(action="store_true", help="write one line per object and rule")),
             ("--fix", dict(metavar="DIR", help="write mended lists into this new directory, with scripts that put them "
                            "in place and back; nothing is applied")),
-            *_PEOPLE, _DOMAIN, *_LINUX_OR_DRAFT, *_FORM]),
+            _JUDGEMENTS, *_PEOPLE, _DOMAIN, *_LINUX_OR_DRAFT, *_FORM]),
     "report": _Word(
         "make a page of HTML",
         "Makes one page with totals, a table of who has which access, and findings.",
@@ -195,7 +197,7 @@ _WORDS: Dict[str, _Word] = {
             ("-o", dict(dest="output", metavar="FILE", help="the page to make; else it goes to standard output")),
             *_PEOPLE, _DOMAIN, *_LINUX_OR_DRAFT, _PATH, _REACH,
             ("--policy", dict(metavar="POLICY", help="the rules of this file come first in the findings")),
-            *_FORM]),
+            _JUDGEMENTS, *_FORM]),
     "info": _Word(
         "what a snapshot has",
         "Writes which trees a snapshot has, and each step of its scan that failed.",

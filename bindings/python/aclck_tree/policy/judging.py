@@ -11,7 +11,7 @@ import functools
 from dataclasses import replace
 from typing import Callable, Dict, FrozenSet, Iterator, List, NamedTuple, Optional, Sequence, Tuple
 
-from aclck import ALLOW, Ace, AceFlag, Difference, NfsAcl, mask_text
+from aclck import ALL, ALLOW, Ace, AceFlag, Difference, NfsAcl, mask_text
 from aclck.entries import letters_of
 
 from aclck_tree.answer.ask import Asker
@@ -106,11 +106,12 @@ def _certain(asked: AskableList, is_most: bool) -> NfsAcl:
 
 
 class _Held:
-    """A list in which OWNER@ and GROUP@ are names, with what was asked about it before."""
+    """A list in which OWNER@ and GROUP@ are names, or those of the stranger who owns what is created. What it grants
+    the people does not depend on anything but the kind of list and the tree, by which they have names (`granted`)."""
 
     def __init__(self, acl: NfsAcl) -> None:
         self.acl = acl
-        self.granted: Dict[Tuple[int, str, str], Sequence[Optional[int]]] = {}
+        self.granted: Dict[Tuple[Kind, int], Sequence[Optional[int]]] = {}
 
     @functools.cached_property
     def names(self) -> FrozenSet[str]:
@@ -134,6 +135,9 @@ _MOST_HELD = 10_000
 _MOST_GRANTED = 4_000_000
 """How many answers about people are kept with them."""
 
+_MOST_TREES = 8
+"""For how many trees they are kept."""
+
 
 class Judge:
     """Judges faces by rules."""
@@ -145,7 +149,8 @@ class Judge:
         self._stranger = stranger
         self._view: Optional[_View] = None
         self._kept = _Kept()
-        self._bounds: Dict[Tuple[int, str, str], _Held] = {}
+        self._names: Dict[int, FrozenSet[str]] = {}
+        self._bounds: Dict[Tuple[int, Optional[str], Optional[str]], _Held] = {}
         self._children: Dict[Tuple[int, bool, int, int], Tuple[Breach, ...]] = {}
 
     def breaches(self, rule: Rule, number: int, is_directory: bool) -> Tuple[Breach, ...]:
@@ -210,14 +215,24 @@ class Judge:
         return self._witness(case, mine, other, found) if found else None
 
     def _bound(self, case: _Case) -> _Held:
-        """Returns the list of a bound for the object itself."""
+        """Returns the list of a bound for the object itself: the same for all owners and groups that it does not
+        name."""
         view, acl = case.view, case.limit.acl
-        key = (id(case.limit), "", "") if view.on else (id(case.limit), view.owner, view.group)
+        key: Tuple[int, Optional[str], Optional[str]] = id(case.limit), None, None
+        if not view.on:
+            names = self._names_in(case.limit)
+            key = (id(case.limit), view.owner if "OWNER@" in names else "", view.group if "GROUP@" in names else "")
         if key not in self._bounds:
             if len(self._bounds) > min(_MOST_HELD, _MOST_GRANTED // (len(self._asker.people) + 1)):
                 self._bounds.clear()
             self._bounds[key] = _Held(acl if view.on else acl.resolved(owner=view.owner, group=view.group))
         return self._bounds[key]
+
+    def _names_in(self, limit: Limit) -> FrozenSet[str]:
+        """Returns the names in the list of a bound."""
+        if id(limit) not in self._names:  # `Limits` keeps the limit
+            self._names[id(limit)] = frozenset(ace.who for ace in limit.acl)
+        return self._names[id(limit)]
 
     def _list(self, view: _View, is_most: Optional[bool]) -> _Held:
         """Returns the list of a view for the object itself, or with `is_most` what is certain of it."""
@@ -229,8 +244,10 @@ class Judge:
 
     def _granted(self, view: _View, held: _Held) -> Sequence[Optional[int]]:
         """Returns what each of the people is granted by a list on the object."""
-        key = (0 if view.kind is Kind.NFS4 else view.face.tree, view.owner, view.group)
+        key = view.kind, view.face.tree
         if key not in held.granted:
+            if len(held.granted) == _MOST_TREES:
+                held.granted.clear()
             held.granted[key] = self._asker.granted_by(held.acl, view.face, view.kind, view.owner, view.group)
         return held.granted[key]
 
@@ -239,7 +256,7 @@ class Judge:
         whom the library names."""
         view, (more, less) = case.view, (mine, other) if case.is_most else (other, mine)
         for person, one, two in zip(self._asker.people, self._granted(view, more), self._granted(view, less)):
-            rights = (one or 0) & ~(two or 0)
+            rights = (one or 0) & ~(ALL if two is None else two)  # nobody is named of whom it is not known
             identity = self._asker.identity(person, view.face, view.kind) if rights else None
             if identity:
                 return self._breach(case, (person.name, True), identity, (view.owner, view.group), rights)

@@ -102,6 +102,11 @@ class Rule:
     exemptions: Tuple[Exemption, ...]
     at_most_obtainable: Optional[Words] = None
 
+    @property
+    def bounds(self) -> Tuple[object, ...]:
+        """What the rule says about objects. Rules that say the same differ in their names and in their objects."""
+        return self.at_most, self.at_least, self.children, self.at_most_obtainable
+
 
 def names_in(rules: Iterable[Rule]) -> Iterator[Tuple[str, Tuple[bool, ...]]]:
     """Yields the names of users (False), of groups (True) and of both in the bounds of some rules."""

@@ -19,7 +19,9 @@ from aclck_tree.output.errors import NO, REFUSED, YES, UsageError
 from aclck_tree.output.files import replaced
 from aclck_tree.output.text import Form, ObjectNamer, Output, plural, quoted, quoted_host, tell
 from aclck_tree.people.people import HIGHEST_ID, Person, stranger_of
-from aclck_tree.policy.checking import Applied, Policy, tell_slips, verdict_of, words_of
+from aclck_tree.policy.applying import Applying, Broken, Key, Policy
+from aclck_tree.policy.checking import tell_slips, words_of
+from aclck_tree.policy.classes import verdict_of
 from aclck_tree.policy.judging import Verdict
 from aclck_tree.policy.policies import read_policy
 from aclck_tree.report.findings import Finding, everyone_words, findings, special_bits_words
@@ -81,7 +83,7 @@ class ObjectTraits(NamedTuple):
     face: int
     above: Optional[Answers]
     place: Optional[Place] = None
-    rules: Tuple[Applied, ...] = ()
+    rules: Optional[Applying] = None
 
 
 _Values = Tuple[Any, ...]
@@ -111,6 +113,10 @@ class Report:
         self.asker = Asker(self.snapshot, [*asker.people, Person(str(self._nobody)), stranger], asker.options)
         self._obtainable = Obtainable(self.asker, len(self.people), is_reach)
         self.policy = policy
+        if policy:
+            self._refuse_many(policy)
+        self._told: Dict[Tuple[Broken, ...], List[Tuple[Finding, str]]] = {}
+        self._ways = 0  # in how many ways objects break rules
         self.findings = [*(_policy_findings() if policy else ()),
                          *findings(self.asker, self.snapshot.directory_faces(), stranger)]
         self.found: Dict[str, Dict[str, Places]] = {finding.key: {} for finding in self.findings}
@@ -152,6 +158,12 @@ class Report:
             one.end()
         return rows
 
+    def _refuse_many(self, policy: Policy) -> None:
+        """Raises TreeError if the policy takes too many judgements. They are counted only if there may be too many."""
+        if policy.may_refuse(self.snapshot.count if policy.is_about_obtaining else 2 * len(self.faces)):
+            paths = None if self.glob is None else Paths(self.snapshot, self.glob)
+            policy.refuse_many({key for key, tree, path in policy.keys() if paths is None or paths.has(tree, path)})
+
     def name(self, tree: int, path: bytes) -> str:
         """Returns the whole path of an object as the page shows it, with the host if there are several."""
         name = self.naming.name(self.snapshot.trees[tree], path)
@@ -172,7 +184,7 @@ class Report:
         """Adds to objects the rules about them, and their places if one of these asks for that."""
         for (tree, path, others, values), place in zip(objects, policy.places()):
             rules = policy.applied(tree, path)
-            yield tree, path, others, (*values, place and policy.place_for(rules, place), rules)
+            yield tree, path, others, (*values, place if rules.has_place else None, rules)
 
     def _places(self, found: Iterable[Tuple[Finding, str]]) -> List[Places]:
         return [self.found[finding.key].setdefault(words, Places(words)) for finding, words in found]
@@ -206,16 +218,26 @@ class Report:
             if words and (one.is_folder or not finding.directories_only):
                 yield finding, words
 
-    def _broken(self, one: ObjectTraits) -> Iterator[Tuple[Finding, str]]:
-        """Yields which rules of the policy objects break, and of which that is not known."""
-        found: Dict[Verdict, List[str]] = {Verdict.BROKEN: [], Verdict.UNKNOWN: []}
-        for rule, exemption in one.rules:
-            assert self.policy
-            breaches = self.policy.breaches(rule, one.face, one.is_folder, one.place) if exemption is None else ()
-            if breaches:
-                words = "; ".join(map(words_of, breaches))
-                found[verdict_of(breaches)].append(f"{quoted(self.policy.rules[rule].name)}: {words}")
-        return ((finding, "; ".join(words)) for finding, words in zip(self.findings, found.values()) if words)
+    def _broken(self, one: ObjectTraits) -> Iterable[Tuple[Finding, str]]:
+        """Returns which rules of the policy objects break, and of which that is not known."""
+        if not self.policy or not one.rules:
+            return ()
+        key = Key(one.face, one.is_folder, one.rules, one.place)
+        broken = tuple(each for each in self.policy.broken(key) if each.alike.holding)
+        if broken not in self._told:
+            self._ways += sum(len(each.alike.rules) for each in broken)
+            self.policy.refuse_ways(self._ways)
+            self._told[broken] = self._told_of(self.policy, broken)
+        return self._told[broken]
+
+    def _told_of(self, policy: Policy, broken: Tuple[Broken, ...]) -> List[Tuple[Finding, str]]:
+        found: Dict[Verdict, List[Tuple[int, str]]] = {Verdict.BROKEN: [], Verdict.UNKNOWN: []}
+        for alike, breaches in broken:
+            words = "; ".join(map(words_of, breaches))
+            found[verdict_of(breaches)] += [(rule, f"{quoted(policy.rules[rule].name)}: {words}")
+                                            for rule, exemption in alike.rules if exemption is None]
+        return [(finding, "; ".join(words for _, words in sorted(rows)))
+                for finding, rows in zip(self.findings, found.values()) if rows]
 
     def _cells_of(self, one: ObjectTraits) -> Tuple[Cells, Tuple[int, ...]]:
         """Returns how objects answer, and which of the people own them."""
@@ -342,7 +364,7 @@ def report(args: argparse.Namespace) -> int:
     snapshot = opened(args, args.snapshot)
     rules = read_policy(args.policy) if args.policy else []
     asker = asker_of(args, snapshot, people_of(args, snapshot))
-    policy = Policy(asker, rules) if rules else None
+    policy = Policy(args.policy, asker, rules, args.judgements) if rules else None
     made = Report(asker, args.path, args.reach, policy)
     is_unread = args.reach and tell_above(asker)
     # with --path, rules may be about other objects
