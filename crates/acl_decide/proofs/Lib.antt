@@ -3,5 +3,6 @@ pub mod Unknowns
 pub mod UnknownMasks
 pub mod Assignments
 pub mod Requests
+pub mod NameNumbers
 pub mod RightsOf
 pub mod Memberships

@@ -1,27 +1,21 @@
 -- A request where names are unknown: what the ACEs that decide its rights say, and which ACEs were passed before.
 use Rattle.std.proofs.Common.{◌≡◌, ◌≢◌, ℕ, ◌+◌, ◌<◌, ◌≤◌, Bool, true, false, List, [], ◌∷◌, ◌++◌, length, take, drop, get_or, set, None, Some, refl, sym, ap, subst, arith, inl, inr, ◌∙◌}
 use Rattle.std.specs.Prelude.{◌&&◌, ◌||◌, ◌↔◌, IsTrue, map, not}
-use Rattle.std.specs.BTreeSet.{BTreeSet, insert_key}
-use Rattle.std.specs.Borrow.{Bor}
-use Rattle.std.specs.Cmp.Lexicographic.{slice_cmp}
-use Rattle.std.specs.Ordering.{nat_cmp}
 use Rattle.std.specs.Str.{bytes_eq}
 use Rattle.std.proofs.lemmas.Bool.{cases_eq, true≢false}
 use Rattle.std.proofs.lemmas.List.{get_or-set_other, get_or-set_same, map-append, take-append-drop}
 use Rattle.acl_perm.proofs.Meetings.{bytes_eq_same, itself}
 use Rattle.acl_perm.proofs.Sets.{IsMask-lt, some_bit}
-use Rattle.acl_perm.specs.Bits.{has_bit, IsDifference, IsMask}
+use Rattle.acl_perm.specs.Bits.{has_bit, IsDifference, IsMask, IsUnion}
 use Rattle.acl_perm.specs.Situation.{Situation}
 use Rattle.acl_perm.specs.declared.kind.Kind.{Kind}
 use Rattle.acl_perm.specs.declared.kind.Kind.TheVariants.{Deny, Allow}
-use Rattle.acl_nfs4.proofs.Exports.{name_inserted}
 use Rattle.acl_nfs4.specs.Ace.{Ace, ace}
 use Rattle.acl_nfs4.specs.Who.{is_unknown_special}
 use Rattle.acl_nfs4.specs.declared.ace.AceRef.{AceRef}
 use Rattle.acl_eval.specs.Column.{takes_part}
 use Rattle.acl_decide.specs.Unknown.{AlwaysAnswers, Assignment, GrantsUnder, MayAnswer, MayNotGrant, NeverGrants, answer_under, matches_under}
-use Rattle.acl_decide.specs.internal.RequestBody.{AllowsFrom, ArePassed, HasPassed, IsOneMore, LeavesOut, MayBeGranted, Says, SaysAce, all_but, applies_but, is_open_name, open_names}
-use Rattle.acl_nfs4.specs.internal.PartReading.{has_name}
+use Rattle.acl_decide.specs.internal.RequestBody.{AllowsFrom, ArePassed, HasPassed, IsNamed, IsOneMore, LeavesOut, MayBeGranted, Says, SaysAce, all_but, applies_but, is_open_name, open_names}
 use Rattle.acl_decide.specs.declared.request_with_unknown.Verdict.{Verdict}
 use Rattle.acl_decide.specs.declared.request_with_unknown.Verdict.TheVariants.{Granted, Denied, Against}
 use Rattle.acl_decide.proofs.Unknowns.{answer_here, answer_passes, answer_skips, match_known, match_unknown}
@@ -62,13 +56,24 @@ decided : (v : Assignment) (s : Situation) (a : Ace) (rest : List Ace) (bit : �
     → takes_part a ≡ true → matches_under v s a ≡ true → answer_under v (a ∷ rest) s bit ≡ Some a.kind
 decided v s a rest bit he te me = answer_here v a rest s bit (rw (he, te) refl) me
 
--- ---- one more name
+-- an ACE that does not decide the right is passed
+pub passed_one : (aces : List AceRef) (item : AceRef) (s : Situation) (bit : ℕ) (out : List ℕ → Bool) (first place : ℕ)
+    → place < length aces → item ≡ get_or aces place item
+    → (has_bit item.mask.bits bit && applies_but out s (ace item)) ≡ false → HasPassed aces s bit out first place
+    → HasPassed aces s bit out first (place + 1)
+passed_one aces item s bit out first place lt read lacks before v leaves = before v leaves
+    ∙ (ap (λ (list : List Ace). answer_under v list s bit) (rest_is aces place item lt read)
+    ∙ by (has_bit item.mask.bits bit) refl)
+  where
+    rest : List Ace
+    rest = map ace (drop (place + 1) aces)
 
--- one more name is out after it was inserted
-pub out_more : (old new : BTreeSet (Bor (List ℕ))) (name : Bor (List ℕ))
-    → new.keys ≡ insert_key (λ x y. slice_cmp nat_cmp x.now y.now) old.keys name
-    → IsOneMore (has_name old) name.now (has_name new)
-out_more old new name is = name_inserted old new name is
+    by : (h : Bool) → has_bit item.mask.bits bit ≡ h → answer_under v (ace item ∷ rest) s bit ≡ answer_under v rest s bit
+    by true he = passed v out s (ace item) rest bit leaves
+        (sym (ap (λ t. t && applies_but out s (ace item)) he) ∙ lacks)
+    by false he = answer_skips v (ace item) rest s bit (rw he refl)
+
+-- ---- one more name
 
 -- an assignment that leaves more names out leaves fewer out
 leaves_fewer : (v : Assignment) (out more : List ℕ → Bool) (name : List ℕ) → IsOneMore out name more
@@ -220,6 +225,13 @@ says_here aces item s bit out place verdict lt read decides says =
       λ v leaves allows. never v kind un m t allows (v item.who.now) refl,
     )
 
+-- a name that must not match is that of the ACE at the place
+pub named_here : (aces : List AceRef) (item : AceRef) (place : ℕ) (verdict : Verdict) → place < length aces
+    → item ≡ get_or aces place item → SaysAce (ace item) verdict → IsNamed aces verdict
+named_here aces item place verdict lt read says who is =
+    let (kind, same, un) = subst (SaysAce (ace item)) is says in
+    (item, place, record { below = lt; is = read }, sym same, un)
+
 -- a right that is denied by the ACE at its place denies the request that has it
 pub says_request : (aces : List AceRef) (s : Situation) (request bit : ℕ) (out : List ℕ → Bool) (place : ℕ)
     (verdict : Verdict) → has_bit request bit ≡ true → HasPassed aces s bit out 0 place → (verdict ≡ Granted → ⊥)
@@ -272,6 +284,23 @@ not_always list s mask others allowed denied undecided unknown is within some wh
         let (v, lacks) = ((unk bit).0 ue).2 in (v, λ g. lacks (g bit me))
     by bit true false false false false me ae de ne ue h w =
         absurd (true≢false (sym me ∙ (w ∙ rw (ae, de, ne, ue) refl)))
+
+-- a request with a right that is granted in no case is granted in none
+pub never_granted : (list : List Ace) (s : Situation) (mask denied undecided refused : ℕ)
+    → IsUnion denied undecided refused → IsMask refused → refused ≢ 0
+    → ((bit : ℕ) → IsTrue (has_bit denied bit)
+    ↔ (IsTrue (has_bit mask bit) × NeverGrants list s bit × MayAnswer list s bit (Some Deny)))
+    → ((bit : ℕ) → IsTrue (has_bit undecided bit) ↔ (IsTrue (has_bit mask bit) × AlwaysAnswers list s bit None))
+    → (v : Assignment) → GrantsUnder v list s mask → ⊥
+never_granted list s mask denied undecided refused is within some den und v grants =
+    let (bit, h) = some_bit refused (IsMask-lt refused within) some in
+    by bit (has_bit denied bit) (has_bit undecided bit) refl refl (sym (is bit) ∙ h)
+  where
+    by : (bit : ℕ) (d u : Bool) → has_bit denied bit ≡ d → has_bit undecided bit ≡ u
+        → (has_bit denied bit || has_bit undecided bit) ≡ true → ⊥
+    by bit true u de ue h = let (has, never, may) = (den bit).0 de in never v (grants bit has)
+    by bit false true de ue h = let (has, none) = (und bit).0 ue in none_allow (sym (none v) ∙ grants bit has)
+    by bit false false de ue h = true≢false (sym h ∙ rw (de, ue) refl)
 
 -- an assignment that grants the request, for the part and the situation that are asked about
 pub may_of_part : (list kept : List Ace) (s t : Situation) (request : ℕ) (b : Bool) → list ≡ kept → s ≡ t → b ≡ true

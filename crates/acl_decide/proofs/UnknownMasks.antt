@@ -1,10 +1,10 @@
 -- Unknown identifiers: what one pass over the rights of a mask notes of an answer, ACE by ACE.
-use Rattle.std.proofs.Common.{◌≡◌, ℕ, Bool, true, false, List, [], ◌∷◌, Option, Some, refl, sym, ap, ◌∙◌}
-use Rattle.std.specs.Prelude.{◌&&◌, ◌||◌, if◌then◌else◌, not}
+use Rattle.std.proofs.Common.{◌≡◌, ℕ, Bool, true, false, List, [], ◌∷◌, Option, None, Some, refl, sym, ap, ◌∙◌}
+use Rattle.std.specs.Prelude.{◌&&◌, ◌||◌, IsTrue, if◌then◌else◌, not}
 use Rattle.std.specs.Str.{bytes_eq}
 use Rattle.std.proofs.lemmas.Bool.{and_parts}
 use Rattle.acl_perm.proofs.Meetings.{bytes_eq_same}
-use Rattle.acl_perm.specs.Bits.{has_bit, IsDifference, IsIntersection, IsUnion}
+use Rattle.acl_perm.specs.Bits.{has_bit, IsDifference, IsIntersection, IsSubset, IsUnion}
 use Rattle.acl_perm.proofs.Sets.{no_bit}
 use Rattle.acl_perm.specs.Situation.{Situation, matches}
 use Rattle.acl_perm.specs.declared.kind.Kind.{Kind}
@@ -18,7 +18,7 @@ use Rattle.std.proofs.lemmas.Map.Text.{btree_map_updates_str}
 use Rattle.std.specs.BTreeMap.{BTreeMap, UpdatesBy, get_by}
 use Rattle.std.specs.Borrow.{Bor}
 use Rattle.std.specs.Cmp.Lexicographic.{slice_cmp}
-use Rattle.std.specs.Option.{option_map_or}
+use Rattle.std.specs.Option.{option_map_or, unwrap_or}
 use Rattle.std.specs.Ordering.{nat_cmp}
 use Rattle.std.specs.Map.{update}
 use Rattle.acl_perm.specs.declared.mask.Mask.{Mask}
@@ -31,13 +31,13 @@ pub noted_none : (names : BTreeMap (Bor (List ℕ)) Mask) → names.entries ≡ 
 noted_none names none bit who = rw none (no_bit bit)
 
 -- the rights of a name after those of one more ACE of an unknown identifier were added
-pub noted_more : (old new : BTreeMap (Bor (List ℕ)) Mask) (a : Ace) (rights : Mask) (earlier : List Ace)
-    → UpdatesBy (λ x y. slice_cmp nat_cmp x.now y.now) (λ k. slice_cmp nat_cmp a.who k.now) old new (Some rights)
+noted_by : (old new : BTreeMap (Bor (List ℕ)) Mask) (a : Ace) (rights : Mask) (earlier : List Ace)
+    → ((who : List ℕ) → get_by (λ k. slice_cmp nat_cmp who k.now) new
+    ≡ update bytes_eq (λ ds. get_by (λ k. slice_cmp nat_cmp ds k.now) old) a.who (Some rights) who)
     → IsUnion (noted_rights old a.who) a.mask rights.bits → (is_unknown_special a.who && takes_part a) ≡ true
     → HaveNoted old earlier → HaveNoted new (noting earlier a)
-noted_more old new a rights earlier updates union takes noted bit who =
-    ap (λ (found : Option Mask). has_bit (option_map_or (λ m. m.bits) found 0) bit)
-    (btree_map_updates_str a.who old new (Some rights) updates who)
+noted_by old new a rights earlier updated union takes noted bit who =
+    ap (λ (found : Option Mask). has_bit (option_map_or (λ m. m.bits) found 0) bit) (updated who)
     ∙ by (bytes_eq a.who who) refl
   where
     by : (n : Bool) → bytes_eq a.who who ≡ n
@@ -53,6 +53,42 @@ noted_more old new a rights earlier updates union takes noted bit who =
         flat false true = refl
         flat false false = refl
     by false e = rw (takes, had_more earlier a bit who, e) (noted bit who ∙ sym (or_false_right (had earlier bit who)))
+
+-- an ACE that has all rights of the earlier ones is noted at once
+pub noted_once : (old new : BTreeMap (Bor (List ℕ)) Mask) (a : Ace) (mask : Mask) (earlier : List Ace)
+    → UpdatesBy (λ x y. slice_cmp nat_cmp x.now y.now) (λ k. slice_cmp nat_cmp a.who k.now) old new (Some mask)
+    → mask.bits ≡ a.mask → IsSubset (noted_rights old a.who) a.mask → (is_unknown_special a.who && takes_part a) ≡ true
+    → HaveNoted old earlier → HaveNoted new (noting earlier a)
+noted_once old new a mask earlier updates same within =
+    noted_by old new a mask earlier (btree_map_updates_str a.who old new (Some mask) updates)
+    (λ bit. ap (λ n. has_bit n bit) same
+    ∙ covers (has_bit (noted_rights old a.who) bit) (has_bit a.mask bit) (within bit))
+  where
+    covers : (x y : Bool) → (IsTrue x → IsTrue y) → y ≡ (x || y)
+    covers true true h = refl
+    covers true false h = h refl
+    covers false y h = refl
+
+-- an ACE that lacks rights of the earlier ones is noted with them after it was noted alone
+pub noted_twice : (old between new : BTreeMap (Bor (List ℕ)) Mask) (a : Ace) (mask rights : Mask) (earlier : List Ace)
+    → UpdatesBy (λ x y. slice_cmp nat_cmp x.now y.now) (λ k. slice_cmp nat_cmp a.who k.now) old between (Some mask)
+    → UpdatesBy (λ x y. slice_cmp nat_cmp x.now y.now) (λ k. slice_cmp nat_cmp a.who k.now) between new (Some rights)
+    → IsUnion (noted_rights old a.who) a.mask rights.bits → (is_unknown_special a.who && takes_part a) ≡ true
+    → HaveNoted old earlier → HaveNoted new (noting earlier a)
+noted_twice old between new a mask rights earlier first second = noted_by old new a rights earlier
+    (λ who. btree_map_updates_str a.who between new (Some rights) second who ∙ by who (bytes_eq a.who who) refl)
+  where
+    by : (who : List ℕ) (n : Bool) → bytes_eq a.who who ≡ n
+        → update bytes_eq (λ ds. get_by (λ k. slice_cmp nat_cmp ds k.now) between) a.who (Some rights) who
+        ≡ update bytes_eq (λ ds. get_by (λ k. slice_cmp nat_cmp ds k.now) old) a.who (Some rights) who
+    by who true e = rw e refl
+    by who false e = rw e (btree_map_updates_str a.who old between (Some mask) first who ∙ rw e refl)
+
+-- the rights that a name had, if none stand for no rights
+pub noted_before : (found : Option Mask) (none rights : Mask) → rights ≡ unwrap_or found none → none.bits ≡ 0
+    → rights.bits ≡ option_map_or (λ m. m.bits) found 0
+noted_before None none rights is zero = ap (λ (m : Mask). m.bits) is ∙ zero
+noted_before (Some mask) none rights is zero = ap (λ (m : Mask). m.bits) is
 
 -- an ACE that does not count changes nothing
 pub after_skipped : (self : Possible) (earlier : List Ace) (a : Ace) (list : List Ace) (s : Situation) (bit : ℕ)

@@ -6,3 +6,5 @@ pub mod DecidingBody
 pub mod UnknownBody
 -- the search for an assignment that grants a request
 pub mod RequestBody
+-- the names of a list by number, and which of them are out
+pub mod OutNames

@@ -3,6 +3,7 @@
 
 pub mod laws;
 mod one_decider;
+mod out_names;
 mod request_with_unknown;
 mod rights_with_unknown;
 

@@ -5,9 +5,10 @@ ghost use Rattle.acl_nfs4.specs.Ace.{ace};
 ghost use Rattle.acl_eval.specs.Situation.{situation};
 ghost use Rattle.acl_decide.specs.Unknown.{GrantsUnder, IsRequestAnswer};
 ghost use Rattle.acl_eval.specs.internal.Asked.{asked_situation};
-ghost use Rattle.acl_decide.specs.internal.RequestBody.{AllowsFrom, ArePassed, HasPassed, MayBeGranted, Says, SaysAce, applies_but};
-ghost use Rattle.acl_nfs4.specs.internal.PartReading.{has_name};
+ghost use Rattle.acl_decide.specs.internal.RequestBody.{AllowsFrom, ArePassed, HasPassed, IsNamed, MayBeGranted, Says, SaysAce, applies_but};
+ghost use Rattle.acl_decide.specs.internal.OutNames.{IsFor, IsNameNumber, is_out};
 
+use crate::out_names::OutNames;
 use crate::rights_with_unknown::decided_with_unknown;
 use acl_eval::internal::Matcher;
 use acl_eval::{Object, Requester};
@@ -15,7 +16,6 @@ use acl_nfs4::{AccessPart, AceRef};
 use acl_perm::internal::Bit;
 use acl_perm::{Kind, Mask};
 use std::alloc::{AllocError, Global};
-use std::collections::BTreeSet;
 
 /// Whether a list grants a request, whatever its unknown identifiers match.
 #[derive(Clone, Copy, Debug, PartialEq, Eq)]
@@ -30,10 +30,10 @@ pub enum RequestAnswer {
 
 /// Returns whether the list grants the whole request, as `grants` does, for every assignment of matches to the special
 /// identifiers that nobody knows, for none, or for some. This is more than `decided_with_unknown` says of each right:
-/// two rights may each be granted and never both, since a name matches for both or for none. After
-/// `decided_with_unknown`, it reads the list about once for each right of the mask. So the time is proportional to the
-/// number of ACEs, times the number of rights, times the logarithm of the number of unknown identifiers. Fails if
-/// memory runs out for these names.
+/// two rights may each be granted and never both, since a name matches for both or for none. If `decided_with_unknown`
+/// does not answer already, it looks each name up once, and reads the list about once for each right of the mask. So
+/// the time is proportional to the number of ACEs, times the number of rights, and to that of the look-ups. Fails if
+/// memory runs out for the names.
 pub fn request_answer(
     alloc: Global,
     part: &AccessPart<'_>,
@@ -47,6 +47,9 @@ pub fn request_answer(
     let decided = decided_with_unknown(alloc, part, object, requester, mask)?;
     if mask.difference(decided.allowed).bits() == 0 {
         return Ok(RequestAnswer::Always);
+    }
+    if decided.denied.union(decided.undecided).bits() != 0 {
+        return Ok(RequestAnswer::Never);
     }
     let aces = part.aces();
     let matcher = Matcher::new(*object, *requester, aces.len());
@@ -78,15 +81,13 @@ fn may_be_granted(
     ensures { IfOk result
         (MayBeGranted (map ace aces.now) (asked_situation matcher.now) mask.bits) }
 {
-    let mut out = BTreeSet::new(alloc);
+    let mut out = OutNames::none(alloc, aces)?;
     let mut places = [0; Bit::COUNT];
     loop {
         match judge(aces, matcher, mask, &out, &mut places) {
             Verdict::Granted => return Ok(true),
             Verdict::Denied => return Ok(false),
-            Verdict::Against(who) => {
-                out.insert(who)?;
-            }
+            Verdict::Against(who) => out.add(who),
         }
     }
 }
@@ -97,16 +98,18 @@ fn judge<'a>(
     aces: &[AceRef<'a>],
     matcher: &Matcher<'_>,
     mask: Mask,
-    out: &BTreeSet<&'a [u8]>,
+    out: &OutNames<'a>,
     places: &mut [usize; Bit::COUNT],
 ) -> Verdict<'a>
     requires named { All (λ a. 1 ≤ length a.who.now) aces.now }
-    requires passed { ArePassed aces.now (asked_situation matcher.now) mask.bits (has_name out.now)
+    requires out { IsFor aces.now out.now }
+    requires passed { ArePassed aces.now (asked_situation matcher.now) mask.bits (is_out out.now)
         places.old }
-    ensures passed { ArePassed aces.now (asked_situation matcher.now) mask.bits (has_name out.now)
+    ensures passed { ArePassed aces.now (asked_situation matcher.now) mask.bits (is_out out.now)
         places.new }
-    ensures says { Says aces.now (has_name out.now)
+    ensures says { Says aces.now (is_out out.now)
         (λ v. GrantsUnder v (map ace aces.now) (asked_situation matcher.now) mask.bits) result }
+    ensures named { IsNamed aces.now result }
 {
     for right in mask.rights() {
         let bit = Bit::from(right);
@@ -127,17 +130,19 @@ fn descend<'a>(
     aces: &[AceRef<'a>],
     matcher: &Matcher<'_>,
     right: Bit,
-    out: &BTreeSet<&'a [u8]>,
+    out: &OutNames<'a>,
     place: &mut usize,
 ) -> Verdict<'a>
-    requires { All (λ a. 1 ≤ length a.who.now) aces.now }
-    ensures passed { HasPassed aces.now (asked_situation matcher.now) right.bit (has_name out.now)
+    requires named { All (λ a. 1 ≤ length a.who.now) aces.now }
+    requires out { IsFor aces.now out.now }
+    ensures passed { HasPassed aces.now (asked_situation matcher.now) right.bit (is_out out.now)
         place.old place.new }
-    ensures says { Says aces.now (has_name out.now)
+    ensures says { Says aces.now (is_out out.now)
         (AllowsFrom aces.now (asked_situation matcher.now) right.bit place.new) result }
+    ensures named { IsNamed aces.now result }
 {
     while let Some(item) = aces.get(*place) {
-        if decides(item, matcher, right, out) {
+        if decides(item, *place, matcher, right, out) {
             return verdict_of(item);
         }
         *place += 1;
@@ -157,22 +162,30 @@ fn verdict_of<'a>(item: &AceRef<'a>) -> Verdict<'a>
     }
 }
 
-// Returns whether the ACE decides the right where all unknown identifiers match but those that are out.
-fn decides(item: &AceRef<'_>, matcher: &Matcher<'_>, right: Bit, out: &BTreeSet<&[u8]>) -> bool
-    requires { 1 ≤ length item.now.who.now }
+// Returns whether the ACE at a place decides the right where all unknown identifiers match but those that are out.
+fn decides(
+    item: &AceRef<'_>,
+    place: usize,
+    matcher: &Matcher<'_>,
+    right: Bit,
+    out: &OutNames<'_>,
+) -> bool
+    requires named { 1 ≤ length item.now.who.now }
+    requires number { IsNameNumber out.now item.now place }
     ensures { result ≡ (has_bit item.now.mask.bits right.bit
-        && applies_but (has_name out.now) (asked_situation matcher.now) (ace item.now)) }
+        && applies_but (is_out out.now) (asked_situation matcher.now) (ace item.now)) }
 {
-    right.is_in(item.mask) && applies_but(item, matcher, out)
+    right.is_in(item.mask) && applies_but(item, place, matcher, out)
 }
 
-// Returns whether the ACE applies where all unknown identifiers match but those that are out.
-fn applies_but(item: &AceRef<'_>, matcher: &Matcher<'_>, out: &BTreeSet<&[u8]>) -> bool
-    requires { 1 ≤ length item.now.who.now }
-    ensures { result ≡ applies_but (has_name out.now) (asked_situation matcher.now) (ace item.now) }
+// Returns whether the ACE at a place applies where all unknown identifiers match but those that are out.
+fn applies_but(item: &AceRef<'_>, place: usize, matcher: &Matcher<'_>, out: &OutNames<'_>) -> bool
+    requires named { 1 ≤ length item.now.who.now }
+    requires number { IsNameNumber out.now item.now place }
+    ensures { result ≡ applies_but (is_out out.now) (asked_situation matcher.now) (ace item.now) }
 {
     if item.is_unknown() {
-        item.takes_part() && !out.contains(item.who)
+        item.takes_part() && !out.has(place)
     } else {
         matcher.applies(item)
     }

@@ -7,7 +7,7 @@ ghost use Rattle.acl_nfs4.specs.Ace.{Ace, ace};
 ghost use Rattle.acl_eval.specs.Situation.{situation};
 ghost use Rattle.acl_decide.specs.Unknown.{AlwaysAnswers, MayAnswer, MayNotGrant, NeverGrants};
 ghost use Rattle.acl_eval.specs.internal.Asked.{asked_situation};
-ghost use Rattle.acl_decide.specs.internal.UnknownBody.{HaveNoted, can_answer, is_answer, is_possible, may_answer, noted_rights, noting};
+ghost use Rattle.acl_decide.specs.internal.UnknownBody.{AreHad, HaveNoted, can_answer, is_answer, is_possible, may_answer, noting};
 
 use acl_eval::internal::Matcher;
 use acl_eval::{Object, Requester};
@@ -87,23 +87,29 @@ fn possible_answers(
     let mut possible = Possible::new(mask);
     let mut names = BTreeMap::new(alloc);
     for item in aces {
-        possible = possible.after(&names, item, matcher);
-        note(&mut names, item)?;
+        let had = note(&mut names, item)?;
+        possible = possible.after(had, item, matcher);
     }
     Ok(possible)
 }
 
-// Adds the rights of the ACE to those of its name, if the name is unknown and the ACE takes part.
-fn note<'a>(names: &mut BTreeMap<&'a [u8], Mask>, item: &AceRef<'a>) -> Result<(), AllocError>
+// Adds the rights of the ACE to those of its name, and returns the rights that earlier ACEs of the name have. An ACE
+// that does not take part, or whose name is known, adds nothing.
+fn note<'a>(names: &mut BTreeMap<&'a [u8], Mask>, item: &AceRef<'a>) -> Result<Mask, AllocError>
     requires { 1 ≤ length item.now.who.now }
-    ensures { OnOk result ((earlier : List Ace) → HaveNoted names.old earlier
+    ensures had { IfOk result (λ rights. (earlier : List Ace) → HaveNoted names.old earlier
+        → AreHad rights.bits (ace item.now) earlier) }
+    ensures noted { OnOk result ((earlier : List Ace) → HaveNoted names.old earlier
         → HaveNoted names.new (noting earlier (ace item.now))) }
 {
-    if item.is_unknown() && item.takes_part() {
-        let rights = rights_of(names, item.who).union(item.mask);
-        names.insert(item.who, rights)?;
+    if !item.is_unknown() || !item.takes_part() {
+        return Ok(Mask::NONE);
     }
-    Ok(())
+    let earlier = names.insert(item.who, item.mask)?.unwrap_or(Mask::NONE);
+    if !item.mask.contains(earlier) {
+        names.insert(item.who, earlier.union(item.mask))?;
+    }
+    Ok(earlier)
 }
 
 /// The answers that are possible for the rights of a mask: rights that an ALLOW of those so far may decide, rights that
@@ -128,16 +134,11 @@ impl Possible {
         }
     }
 
-    // The answers that are possible after one more ACE, given the rights of unknown identifiers in the earlier ACEs.
-    fn after(
-        self,
-        names: &BTreeMap<&[u8], Mask>,
-        item: &AceRef<'_>,
-        matcher: &Matcher<'_>,
-    ) -> Possible
+    // The answers that are possible after one more ACE, given the rights that earlier ACEs of its name have.
+    fn after(self, had: Mask, item: &AceRef<'_>, matcher: &Matcher<'_>) -> Possible
         requires { 1 ≤ length item.now.who.now }
         ensures { (earlier list : List Ace) (bit : ℕ) (answer : Option KindValue)
-            → HaveNoted names.now earlier
+            → AreHad had.bits (ace item.now) earlier
             → may_answer result (noting earlier (ace item.now)) list
             (asked_situation matcher.now) bit answer
             ≡ may_answer self earlier (ace item.now ∷ list)
@@ -148,7 +149,7 @@ impl Possible {
             return self;
         }
         if item.is_unknown() {
-            return self.with(item.kind, first_rights(names, item.who, common));
+            return self.with(item.kind, common.difference(had));
         }
         if matcher.applies(item) {
             return self.with(item.kind, common).without(common);
@@ -210,18 +211,4 @@ impl Possible {
             unknown: self.allow.intersection(others),
         }
     }
-}
-
-// Returns those of the rights that no earlier ACE of the name has.
-fn first_rights(names: &BTreeMap<&[u8], Mask>, who: &[u8], rights: Mask) -> Mask
-    ensures { IsDifference rights.bits (noted_rights names.now who.now) result.bits }
-{
-    rights.difference(rights_of(names, who))
-}
-
-// Returns the rights that earlier ACEs of the name have.
-fn rights_of(names: &BTreeMap<&[u8], Mask>, who: &[u8]) -> Mask
-    ensures { result.bits ≡ noted_rights names.now who.now }
-{
-    names.get(who).copied().unwrap_or(Mask::NONE)
 }

@@ -1,5 +1,6 @@
 -- The search for an assignment that grants a request, from the greatest downwards: this library's own.
 use Rattle.std.specs.Prelude.{◌≡◌, ◌<◌, ℕ, Bool, true, false, ◌&&◌, ◌||◌, not, List, drop, length, map, slice_index_or, Some}
+use Rattle.std.specs.Borrow.{Bor}
 use Rattle.std.specs.List.{filter}
 use Rattle.std.specs.Str.{bytes_eq}
 use Rattle.acl_perm.specs.Bits.{has_bit}
@@ -9,6 +10,7 @@ use Rattle.acl_nfs4.specs.Ace.{Ace, ace}
 use Rattle.acl_nfs4.specs.Who.{is_unknown_special}
 use Rattle.acl_nfs4.specs.declared.ace.AceRef.{AceRef}
 use Rattle.acl_eval.specs.Column.{takes_part}
+use Rattle.acl_decide.specs.internal.OutNames.{IsUnknownNameIn}
 use Rattle.acl_decide.specs.Unknown.{Assignment, GrantsUnder, answer_under, matches_under}
 use Rattle.acl_decide.specs.declared.request_with_unknown.Verdict.{Verdict}
 use Rattle.acl_decide.specs.declared.request_with_unknown.Verdict.TheVariants.{Granted, Denied, Against}
@@ -60,6 +62,10 @@ Says aces out Reaches Denied = (v : Assignment) → LeavesOut v out → Reaches 
 Says aces out Reaches (Against who) = ((more : List ℕ → Bool) → IsOneMore out who.now more
     → open_names more (map ace aces) < open_names out (map ace aces))
     × ((v : Assignment) → LeavesOut v out → Reaches v → v who.now ≡ false)
+
+-- a name that must not match is that of one of the ACEs
+abbrev pub IsNamed : List AceRef → Verdict → Type 0
+IsNamed aces verdict = (who : Bor (List ℕ)) → verdict ≡ Against who → IsUnknownNameIn aces who.now
 
 -- the ACE takes part and matches where all names match but those that are out
 abbrev pub applies_but : (List ℕ → Bool) → Situation → Ace → Bool

@@ -44,6 +44,11 @@ noted_rights names who = option_map_or (λ mask. mask.bits) (get_by (λ k. slice
 abbrev pub HaveNoted : BTreeMap (Bor (List ℕ)) Mask → List Ace → Type 0
 HaveNoted names earlier = (bit : ℕ) (who : List ℕ) → has_bit (noted_rights names who) bit ≡ had earlier bit who
 
+-- if the ACE takes part and its name is unknown, the rights are those that the earlier ACEs of the name have
+abbrev pub AreHad : ℕ → Ace → List Ace → Type 0
+AreHad rights a earlier = (is_unknown_special a.who && takes_part a) ≡ true → (bit : ℕ)
+    → has_bit rights bit ≡ had earlier bit a.who
+
 -- whether the answer is possible for the bit: the first ACE of an unknown identifier that has the bit may decide or
 -- not, a later one cannot, and any other ACE that matches decides
 unfoldable pub can_answer : List Ace → List Ace → Situation → ℕ → Option Kind → Bool

@@ -8,7 +8,7 @@ use Rattle.acl_nfs4.specs.Ace.{ace}
 use Rattle.acl_eval.specs.Situation.{situation}
 use Rattle.acl_decide.specs.Unknown.{answer_under}
 use Rattle.acl_decide.specs.internal.RequestBody.{all_but}
-use Rattle.acl_nfs4.specs.internal.PartReading.{has_name}
+use Rattle.acl_decide.specs.internal.OutNames.{is_out}
 use Rattle.acl_decide.proofs.Requests.{allowed_here, passed_at, passed_here, says_request}
 use Rattle.acl_decide.proofs.RightsOf.{rights_are, rights_have}
 use Rattle.acl_decide.proofs.request_with_unknown.judge.Goals as goal
@@ -24,8 +24,8 @@ loop-right-init c =
       c.requires.passed,
       subst (AllByRecursion (λ bit. has_bit request bit ≡ true)) (sym is) (rights_are request),
       λ each bit has. rights_have request
-          (λ bit. answer_under (all_but (has_name c.args.out.now)) (map ace c.args.aces.now) s bit ≡ Some Allow)
-          c.args.mask.within (subst (AllByRecursion (λ bit. answer_under (all_but (has_name c.args.out.now))
+          (λ bit. answer_under (all_but (is_out c.args.out.now)) (map ace c.args.aces.now) s bit ≡ Some Allow)
+          c.args.mask.within (subst (AllByRecursion (λ bit. answer_under (all_but (is_out c.args.out.now))
           (map ace c.args.aces.now) s bit ≡ Some Allow)) is each) bit has,
     )
 
@@ -35,7 +35,7 @@ returns-in_default c =
     let request = c.args.mask.bits in
     let bit = c.from-bit.result.bit in
     let place = c.descend-verdict.new.place in
-    let out = has_name c.args.out.now in
+    let out = is_out c.args.out.now in
     let (next, finite, long, before, rights, granted) = c.loop-right.invariant in
     let has = subst (AllByRecursion (λ b. has_bit request b ≡ true)) c.in-Some.ensures.steps rights in
     let asked : has_bit request bit ≡ true = ap (has_bit request) c.from-bit.ensures ∙ has.0 in
@@ -45,6 +45,7 @@ returns-in_default c =
       says = says_request c.args.aces.now s request bit out place c.descend-verdict.result asked
           (passed_here c.args.aces.now s request bit place out c.loop-right.places asked moved before)
           c.in_default.not-Granted c.descend-verdict.ensures.says;
+      named = c.descend-verdict.ensures.named;
     }
 
 pub loop-right-preserved : goal.loop-right-preserved
@@ -54,7 +55,7 @@ loop-right-preserved c =
     let request = c.args.mask.bits in
     let bit = c.from-bit.result.bit in
     let place = c.descend-verdict.new.place in
-    let out = has_name c.args.out.now in
+    let out = is_out c.args.out.now in
     let (next, finite, long, before, rights, granted) = c.loop-right.invariant in
     let has = subst (AllByRecursion (λ b. has_bit request b ≡ true)) c.in-Some.ensures.steps rights in
     let asked : has_bit request bit ≡ true = ap (has_bit request) c.from-bit.ensures ∙ has.0 in
@@ -76,5 +77,5 @@ pub returns-clause-says : goal.returns-clause-says
 returns-clause-says c =
     let s = situation c.args.matcher.now.object c.args.matcher.now.requester in
     let (next, finite, long, before, rights, granted) = c.loop-right.invariant in
-    granted (subst (AllByRecursion (λ b. answer_under (all_but (has_name c.args.out.now)) (map ace c.args.aces.now) s b
+    granted (subst (AllByRecursion (λ b. answer_under (all_but (is_out c.args.out.now)) (map ace c.args.aces.now) s b
     ≡ Some Allow)) (sym c.in-None.ensures.steps.0) tt)

@@ -3,7 +3,7 @@ use Rattle.std.specs.Prelude.{map}
 use Rattle.acl_perm.specs.Bits.{IsMask}
 use Rattle.acl_nfs4.specs.Ace.{ace}
 use Rattle.acl_eval.specs.Situation.{situation}
-use Rattle.acl_decide.proofs.Requests.{may_of_part, not_always}
+use Rattle.acl_decide.proofs.Requests.{may_of_part, never_granted, not_always}
 use Rattle.acl_decide.proofs.request_with_unknown.request_answer.Goals as goal
 
 pub returns-then-branch : goal.returns-then-branch
@@ -20,4 +20,14 @@ returns-then-branch c =
             (λ e. c.if-bits-eq0.false (c.bits.ensures.value ∙ e)) c.in_ok-decided.ensures.whole
             c.in_ok-decided.ensures.denied c.in_ok-decided.ensures.undecided c.in_ok-decided.ensures.unknown,
       );
+    }
+
+pub returns-then-bits-ne0 : goal.returns-then-bits-ne0
+returns-then-bits-ne0 c =
+    let s = situation c.args.object.now c.args.requester.now in
+    let decided = c.in_ok-decided.decided in record {
+      exact = never_granted c.args.part.now.kept s c.args.mask.bits decided.denied.bits decided.undecided.bits
+          c.union.result.bits c.union.ensures.meaning c.union.result.within
+          (λ e. c.if-bits-ne0.true (c.bits-2.ensures.value ∙ e)) c.in_ok-decided.ensures.denied
+          c.in_ok-decided.ensures.undecided;
     }

@@ -19,11 +19,11 @@ loop-item-init c = (
 pub loop-item-preserved : goal.loop-item-preserved
 loop-item-preserved c = let (earlier, noted, before) = c.loop-item.invariant in (
   noting earlier (ace c.item-item.result),
-  c.in_ok-note.ensures earlier noted,
+  c.in_ok-had.ensures.noted earlier noted,
   λ bit k. possible_next c.args.aces.now c.loop-item.item-index c.item-item.result c.loop-item.possible
       c.after-possible.result earlier (situation c.args.matcher.now.object c.args.matcher.now.requester) bit k _
       c.loop-item-test.true c.item-item.is (c.after-possible.ensures earlier
-      (map ace (drop (c.loop-item.item-index + 1) c.args.aces.now)) bit k noted) (before bit k),
+      (map ace (drop (c.loop-item.item-index + 1) c.args.aces.now)) bit k (c.in_ok-had.ensures.had earlier noted)) (before bit k),
 )
 
 pub returns : goal.returns

@@ -1,5 +1,6 @@
 use Rattle.std.proofs.Common.{ap, sym, ◌∙◌}
 use Rattle.std.specs.Prelude.{◌&&◌, not}
+use Rattle.std.proofs.lemmas.Bool.{and_from}
 use Rattle.acl_perm.specs.Bits.{has_bit}
 use Rattle.acl_nfs4.specs.Ace.{ace}
 use Rattle.acl_eval.specs.Situation.{situation}
@@ -8,7 +9,7 @@ use Rattle.acl_decide.proofs.rights_with_unknown.Possible.after.Goals.{then-bits
 use Rattle.acl_decide.proofs.rights_with_unknown.Possible.after.Goals as goal
 
 pub returns-then-bits-eq0 : goal.returns-then-bits-eq0
-returns-then-bits-eq0 c = λ earlier list bit answer noted. elim c.then-bits-eq0.branch [
+returns-then-bits-eq0 c = λ earlier list bit answer had. elim c.then-bits-eq0.branch [
   | then-bits-eq0-via-then-bits-eq0 w ↦ after_lacking c.args.self c.intersection-common.result.bits
       earlier (ace c.args.item.now) list
       (situation c.args.matcher.now.object c.args.matcher.now.requester) bit answer
@@ -19,17 +20,19 @@ returns-then-bits-eq0 c = λ earlier list bit answer noted. elim c.then-bits-eq0
 ]
 
 pub returns-then-is_unknown : goal.returns-then-is_unknown
-returns-then-is_unknown c = λ earlier list bit answer noted.
+returns-then-is_unknown c = λ earlier list bit answer had.
     after_unknown c.args.self c.with.result c.intersection-common.result.bits
-    c.first_rights.result.bits earlier (ace c.args.item.now) list
+    c.difference.result.bits earlier (ace c.args.item.now) list
     (situation c.args.matcher.now.object c.args.matcher.now.requester) bit answer
     (sym c.takes_part.ensures ∙ c.if-not-takes_part.false) (sym c.is_unknown.ensures ∙ c.if-is_unknown.true)
-    c.intersection-common.ensures.meaning (c.first_rights.ensures bit
-    ∙ ap (λ t. has_bit c.intersection-common.result.bits bit && not t) (noted bit c.args.item.now.who.now))
+    c.intersection-common.ensures.meaning (c.difference.ensures.meaning bit
+    ∙ ap (λ t. has_bit c.intersection-common.result.bits bit && not t)
+    (had (and_from _ _ (sym c.is_unknown.ensures ∙ c.if-is_unknown.true)
+    (sym c.takes_part.ensures ∙ c.if-not-takes_part.false)) bit))
     (c.with.ensures.possible bit answer) (ap (λ m. has_bit m.bits bit) c.with.ensures.left)
 
 pub returns-then-applies : goal.returns-then-applies
-returns-then-applies c = λ earlier list bit answer noted.
+returns-then-applies c = λ earlier list bit answer had.
     after_match c.args.self c.without.result c.intersection-common.result.bits
     earlier (ace c.args.item.now) list
     (situation c.args.matcher.now.object c.args.matcher.now.requester) bit answer
@@ -40,7 +43,7 @@ returns-then-applies c = λ earlier list bit answer noted.
     c.with-then-applies.ensures.left)
 
 pub returns : goal.returns
-returns c = λ earlier list bit answer noted. after_other c.args.self earlier (ace c.args.item.now) list
+returns c = λ earlier list bit answer had. after_other c.args.self earlier (ace c.args.item.now) list
     (situation c.args.matcher.now.object c.args.matcher.now.requester) bit answer
     (sym c.is_unknown.ensures ∙ c.if-is_unknown.false) (sym c.takes_part.ensures ∙ c.if-not-takes_part.false)
     (sym c.applies.ensures ∙ c.if-applies.false)
