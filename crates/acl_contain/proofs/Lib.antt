@@ -12,3 +12,5 @@ pub mod RightReplaced
 pub mod TurnedRows
 -- the most that a list may keep under a bound
 pub mod restriction
+-- lists whose ACEs are joined
+pub mod joins

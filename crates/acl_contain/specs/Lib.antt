@@ -5,3 +5,4 @@ pub mod Needed
 pub mod internal
 pub mod Removal
 pub mod Questions
+pub mod Tidied

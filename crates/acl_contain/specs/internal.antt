@@ -12,3 +12,5 @@ pub mod LimitTables
 pub mod Kept
 -- a list at one of five paths, with each ACE at its place
 pub mod InPlace
+-- what shows into which earlier ACE an ACE can be joined
+pub mod Joining

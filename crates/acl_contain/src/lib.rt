@@ -10,6 +10,7 @@ mod implying;
 pub mod laws;
 mod needed_rights;
 mod restricting;
+mod tidying;
 
 pub use asking::{Question, QuestionsFault, questions};
 pub use equal_grants::same_views;
@@ -19,3 +20,4 @@ pub use implying::implies;
 pub use needed_rights::needed_of_view;
 pub use restricting::everywhere::restricted_everywhere;
 pub use restricting::restricted;
+pub use tidying::tidy;

@@ -122,7 +122,7 @@ fn without<'a>(item: AceRef<'a>, right: Right) -> AceRef<'a>
 }
 
 // The list of these ACEs.
-fn written(alloc: Global, aces: &[AceRef<'_>]) -> Result<Acl, AllocError>
+pub(crate) fn written(alloc: Global, aces: &[AceRef<'_>]) -> Result<Acl, AllocError>
     requires { IsAccepted full (aces_in aces.now) }
     ensures { IfOk result (λ list. list ≡ aces_in aces.now) }
 {

@@ -13,3 +13,4 @@ mod lists;
 mod needed_rights;
 mod restrictions;
 mod restrictions_everywhere;
+mod tidied_lists;

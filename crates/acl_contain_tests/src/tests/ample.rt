@@ -3,7 +3,7 @@
 
 use super::{
     asked_questions, equal_lists, excesses, holder_words, implications, needed_rights,
-    restrictions, restrictions_everywhere,
+    restrictions, restrictions_everywhere, tidied_lists,
 };
 use acl_nfs4::PushFault;
 
@@ -18,5 +18,6 @@ fn every_row_of_the_tables_holds_if_memory_is_ample(rt: HostRuntime) -> Result<(
     implications::worked_implications(&rt, alloc)?;
     needed_rights::needed_rights(&rt, alloc)?;
     restrictions::worked_restrictions(&rt, alloc)?;
-    restrictions_everywhere::worked_restrictions(&rt, alloc)
+    restrictions_everywhere::worked_restrictions(&rt, alloc)?;
+    tidied_lists::tidied_lists(&rt, alloc)
 }

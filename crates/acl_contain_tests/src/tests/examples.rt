@@ -44,6 +44,18 @@ mod ample {
     }
 
     #[test]
+    fn amy_may_read_and_write_by_one_ace(rt: HostRuntime) -> Result<(), Fail> {
+        let alloc = rt.alloc();
+        let list = parse_text(
+            alloc,
+            b"ALLOW - READ_DATA amy\nDENY - EXECUTE bob\nALLOW - WRITE_DATA amy\n",
+        )?;
+        let tidied = tidy(alloc, &list)?;
+        assert!(rt; tidied == parse_text(alloc, b"ALLOW - READ_DATA|WRITE_DATA amy\n")?);
+        Ok(())
+    }
+
+    #[test]
     fn new_files_do_not_get_what_the_bound_does_not_grant_them(
         rt: HostRuntime,
     ) -> Result<(), Fail> {
