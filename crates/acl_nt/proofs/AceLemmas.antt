@@ -1,18 +1,31 @@
 -- The ACEs that are left while an ACL is read.
 use Rattle.std.proofs.Common.{◌≡◌, ◌∙◌, ◌+◌, ◌++◌, ℕ, zero, suc, Bool, true, false, cond, List, [], ◌∷◌, None, arith, refl, ap, sym, append_assoc}
-use Rattle.std.specs.Prelude.{filter, map, not, if◌then◌else◌}
+use Rattle.std.specs.Prelude.{◌==◌, filter, map, not, if◌then◌else◌}
+use Rattle.acl_perm.specs.declared.kind.Kind.{Kind}
+use Rattle.acl_perm.specs.declared.kind.Kind.TheVariants.{Allow, Deny}
 use Rattle.std.proofs.lemmas.List.Concat.{flat_map-cons}
-use Rattle.acl_nt.specs.AceAt.{nt_ace_at, ace_conditions, ace_size, type_decides, other_at}
+unfoldable use Rattle.acl_nt.specs.AceAt.{nt_ace_at}
+use Rattle.acl_nt.specs.AceAt.{ace_conditions, ace_size, sid_place, type_decides, other_at}
 use Rattle.acl_nt.specs.AclAt.{aces_conditions, deciding_aces, other_nt_aces}
 unfoldable use Rattle.acl_nt.specs.AclAt.{places}
 use Rattle.acl_nt.specs.Conditions.{Condition, FailsUnder, first_unmet}
 use Rattle.acl_nt.specs.Descriptor.{NtAce}
-use Rattle.acl_nt.specs.Numbers.{byte_at}
+use Rattle.acl_nt.specs.Numbers.{byte_at, dword_at}
+use Rattle.acl_nt.specs.Sid.{Sid}
+use Rattle.acl_nt.specs.SidAt.{sid_at}
 use Rattle.acl_nt.specs.internal.Parts.{aces_added}
 use Rattle.acl_nt.specs.declared.ace.OtherAce.{OtherAce}
 use Rattle.acl_nt.specs.declared.fault.NtFault.{NtFault}
 use Rattle.acl_nt.specs.declared.role.Role.{Role}
 use Rattle.acl_nt.proofs.ConditionLemmas.{fails_before, fails_same, fault_after}
+
+-- an ACE of these parts is the one at a place
+pub ace_is : (bytes : List ℕ) (at : ℕ) (kind : Kind) (flags mask : ℕ) (s : Sid)
+    → kind ≡ (if byte_at bytes at == 0 then Allow else Deny) → flags ≡ byte_at bytes (at + 1)
+    → mask ≡ dword_at bytes (at + 4) → s ≡ sid_at bytes (sid_place bytes at)
+    → record { kind = kind; flags = flags; mask = mask; sid = s } ≡ nt_ace_at bytes at
+unfolding nt_ace_at
+ace_is bytes at kind flags mask s k f m is = rw (k, f, m, is) refl
 
 -- the places of one ACE and of those that are left after it
 places_more : (left next : ℕ) (bytes : List ℕ) (at size : ℕ) → left ≡ next + 1 → size ≡ ace_size bytes at

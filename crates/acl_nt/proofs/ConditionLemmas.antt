@@ -1,9 +1,11 @@
 -- The first fault of conditions after others.
-use Rattle.std.proofs.Common.{◌≡◌, ◌∙◌, ◌++◌, Bool, true, false, List, [], ◌∷◌, Option, None, Some, Result, Ok, Err, ap, arith, inl, inr, refl}
+use Rattle.std.proofs.Common.{◌≡◌, ◌∙◌, ◌++◌, ℕ, Bool, true, false, List, [], ◌∷◌, Option, None, Some, Result, Ok, Err, ap, arith, inl, inr, refl}
 use Rattle.std.specs.Prelude.{IsTrue, if◌then◌else◌}
 use Rattle.std.specs.Result.{IsErrAnd}
-use Rattle.acl_nt.specs.Conditions.{AreMet, Condition, FailsUnder, ReadsUnder, first_unmet}
+use Rattle.acl_nt.specs.Conditions.{AreMet, Condition, FailsUnder, ReadsUnder, check, first_unmet}
+use Rattle.acl_nt.specs.Faults.{nt_fault_at}
 use Rattle.acl_nt.specs.declared.fault.NtFault.{NtFault}
+use Rattle.acl_nt.specs.declared.fault.NtReason.{NtReason}
 
 -- a condition that is met has no fault
 met_after : (h : Bool) (f : NtFault) (a b r : Option NtFault) → (a ≡ None → b ≡ r)
@@ -48,7 +50,8 @@ met_none [] met = refl
 met_none (c ∷ xs) met = none_here c.holds c.fault (first_unmet xs) met.0 (met_none xs met.1)
 
 -- a fault of conditions that come after others, which are met
-pub fails_after : (f : NtFault) (xs ys : List Condition) → first_unmet xs ≡ None → FailsUnder f ys → FailsUnder f (xs ++ ys)
+pub fails_after : (f : NtFault) (xs ys : List Condition) → first_unmet xs ≡ None → FailsUnder f ys
+    → FailsUnder f (xs ++ ys)
 fails_after f xs ys e (inl memory) = inl memory
 fails_after f xs ys e (inr fault) = inr (fault_after xs ys e ∙ fault)
 
@@ -58,9 +61,20 @@ fails_before f xs ys (inl memory) = inl memory
 fails_before f xs ys (inr fault) = inr (fault_before xs ys f fault)
 
 -- a fault of conditions that have the first fault of others
-pub fails_same : (f : NtFault) (xs ys : List Condition) → first_unmet xs ≡ first_unmet ys → FailsUnder f ys → FailsUnder f xs
+pub fails_same : (f : NtFault) (xs ys : List Condition) → first_unmet xs ≡ first_unmet ys → FailsUnder f ys
+    → FailsUnder f xs
 fails_same f xs ys e (inl memory) = inl memory
 fails_same f xs ys e (inr fault) = inr (e ∙ fault)
+
+-- the fault of one more condition, which is not met
+pub last_unmet : (xs : List Condition) (holds : Bool) (at : ℕ) (reason : NtReason) → first_unmet xs ≡ None
+    → holds ≡ false → first_unmet (xs ++ check holds at reason ∷ []) ≡ Some (nt_fault_at at reason)
+last_unmet xs holds at reason none e = fault_after xs (check holds at reason ∷ []) none ∙ rw e refl
+
+-- with one more condition that is met there is no fault
+pub last_met : (xs : List Condition) (holds : Bool) (at : ℕ) (reason : NtReason) → first_unmet xs ≡ None
+    → holds ≡ true → first_unmet (xs ++ check holds at reason ∷ []) ≡ None
+last_met xs holds at reason none e = fault_after xs (check holds at reason ∷ []) none ∙ rw e refl
 
 -- what is read after conditions that are met
 pub reads_after : {X Y : Type 0} (view : X → Y) (r : Result X NtFault) (xs ys : List Condition) (value : Y)

@@ -6,3 +6,4 @@ pub mod SidNames
 pub mod NtGrants
 pub mod Mapped
 pub mod Tokens
+pub mod WholeGrants

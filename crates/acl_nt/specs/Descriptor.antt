@@ -1,4 +1,5 @@
--- Security descriptors (MS-DTYP, section 2.4.6) and the ACEs of their DACL (sections 2.4.4 and 2.4.5).
+-- Security descriptors (MS-DTYP, section 2.4.6) and the ACEs of their DACL (sections 2.4.4 and
+-- 2.4.5).
 use Rattle.std.specs.Prelude.{ℕ, List, map, Option, option_map}
 use Rattle.std.specs.Global.{Vec}
 use Rattle.acl_perm.specs.declared.kind.Kind.{Kind}
@@ -21,7 +22,8 @@ pub data Dacl : Type 0 where
   null : Dacl
   entries : (aces : List NtAce) → Dacl
 
--- the control bits, the owner and the group if there are any, the DACL, and the ACEs of the SACL if there is one
+-- the control bits, the owner and the group if there are any, the DACL, and the ACEs of the SACL if
+-- there is one
 pub record Descriptor : Type 0 where
   pub control : ℕ
   pub owner : Option Sid

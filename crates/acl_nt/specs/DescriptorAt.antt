@@ -1,5 +1,5 @@
--- A self-relative security descriptor (MS-DTYP, section 2.4.6) at a place of a value. Its offsets count from the start
--- of the value.
+-- A self-relative security descriptor (MS-DTYP, section 2.4.6) at a place of a value. Its offsets
+-- count from the start of the value.
 use Rattle.std.specs.Prelude.{ℕ, ◌+◌, ◌%◌, ◌==◌, ◌&&◌, ◌||◌, Bool, true, List, [], ◌∷◌, ◌++◌, length, nat_le, Option, None, Some, if◌then◌else◌}
 use Rattle.acl_nt.specs.AclAt.{ace_places, acl_conditions, deciding_aces, other_nt_aces}
 use Rattle.acl_nt.specs.Conditions.{Condition, check}
@@ -22,7 +22,8 @@ names_none offset = offset == 0
 
 -- an offset is after the header at a place, on a multiple of 4, and within the value
 abbrev pub is_offset : List ℕ → ℕ → ℕ → Bool
-is_offset bytes base offset = nat_le (base + 20) offset && ((offset % 4 == 0) && nat_le offset (length bytes))
+is_offset bytes base offset =
+    nat_le (base + 20) offset && ((offset % 4 == 0) && nat_le offset (length bytes))
 
 -- a field of the header is 0 or, if it may name a part, an offset
 abbrev pub is_field : List ℕ → ℕ → ℕ → Bool → Bool
@@ -31,7 +32,8 @@ is_field bytes base field may_name = names_none (dword_at bytes (base + field))
 
 -- the condition on a field of the header that may name a part or not
 abbrev pub offset_condition : List ℕ → ℕ → ℕ → Bool → Condition
-offset_condition bytes base field may_name = check (is_field bytes base field may_name) (base + field) Offset
+offset_condition bytes base field may_name =
+    check (is_field bytes base field may_name) (base + field) Offset
 
 -- the conditions on the offsets of the owner, the group, the SACL if there may be one, and the DACL
 abbrev pub offset_conditions : List ℕ → ℕ → Bool → List Condition
@@ -39,8 +41,8 @@ offset_conditions bytes base has_sacl =
     offset_condition bytes base 4 true ∷ offset_condition bytes base 8 true
     ∷ offset_condition bytes base 12 has_sacl ∷ offset_condition bytes base 16 true ∷ []
 
--- the conditions on the header of the descriptor at a place; SELF_RELATIVE is 0x8000, DACL_PRESENT 4, and SACL_PRESENT
--- 0x10
+-- the conditions on the header of the descriptor at a place; SELF_RELATIVE is 0x8000, DACL_PRESENT
+-- 4, and SACL_PRESENT 0x10
 unfoldable pub header_conditions : List ℕ → ℕ → List Condition
 header_conditions bytes base =
     check (nat_le (base + 20) (length bytes)) base Truncated
@@ -59,13 +61,15 @@ part_at part offset = if names_none offset then None else Some (part offset)
 
 -- the conditions on the SID at an offset, if the offset names one
 unfoldable pub named_sid_conditions : List ℕ → ℕ → List Condition
-named_sid_conditions bytes offset = part_conditions (λ at. sid_conditions bytes at (length bytes)) offset
+named_sid_conditions bytes offset =
+    part_conditions (λ at. sid_conditions bytes at (length bytes)) offset
 
 -- the conditions on the ACL at an offset, if the offset names one
 unfoldable pub named_acl_conditions : Role → List ℕ → ℕ → List Condition
 named_acl_conditions role bytes offset = part_conditions (acl_conditions role bytes) offset
 
--- the conditions on the owner, the group, the SACL and the DACL of the descriptor at a place, in this order
+-- the conditions on the owner, the group, the SACL and the DACL of the descriptor at a place, in
+-- this order
 abbrev pub parts_conditions : Role → List ℕ → ℕ → List Condition
 parts_conditions role bytes base =
     named_sid_conditions bytes (dword_at bytes (base + 4))
@@ -75,7 +79,8 @@ parts_conditions role bytes base =
 
 -- the conditions on the descriptor at a place: first on its header
 abbrev pub descriptor_conditions : Role → List ℕ → ℕ → List Condition
-descriptor_conditions role bytes base = header_conditions bytes base ++ parts_conditions role bytes base
+descriptor_conditions role bytes base =
+    header_conditions bytes base ++ parts_conditions role bytes base
 
 -- the SID at an offset, if the offset names one
 abbrev pub named_sid : List ℕ → ℕ → Option Sid
@@ -92,7 +97,8 @@ named_dacl role bytes offset =
 
 -- the ACEs of the DACL at an offset that do not decide
 abbrev pub left_out_at : Role → List ℕ → ℕ → List OtherAce
-left_out_at role bytes offset = if names_none offset then [] else other_nt_aces role bytes (ace_places bytes offset)
+left_out_at role bytes offset =
+    if names_none offset then [] else other_nt_aces role bytes (ace_places bytes offset)
 
 -- the descriptor at a place
 abbrev pub descriptor_at : Role → List ℕ → ℕ → Descriptor

@@ -13,3 +13,4 @@ pub mod Spells
 pub mod internal
 pub mod NtCheck
 pub mod NtList
+pub mod ValueCheck

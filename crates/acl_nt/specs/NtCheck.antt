@@ -1,5 +1,5 @@
--- The access check of a security descriptor (MS-DTYP, section 2.5.3.2), for ALLOW and DENY ACEs: without privileges,
--- conditions, labels and central policies.
+-- The access check of a security descriptor (MS-DTYP, section 2.5.3.2), for ALLOW and DENY ACEs:
+-- without privileges, conditions, labels and central policies.
 use Rattle.std.specs.Prelude.{ℕ, Bool, false, true, ◌&&◌, ◌||◌, not, ◌==◌, if◌then◌else◌, List, [], ◌∷◌, Option, Some, None, bit_and}
 use Rattle.std.specs.List.{list_any}
 use Rattle.std.specs.Str.{bytes_eq}
@@ -13,7 +13,8 @@ use Rattle.acl_nt.specs.Sid.{Sid}
 abbrev pub same_sid : Sid → Sid → Bool
 same_sid x y = x.authority == y.authority && bytes_eq x.words y.words
 
--- the SID is in a set of SIDs, which is given as a list: the order and repeated members do not count
+-- the SID is in a set of SIDs, which is given as a list: the order and repeated members do not
+-- count
 abbrev pub is_sid_in : Sid → List Sid → Bool
 is_sid_in x sids = list_any (same_sid x) sids
 
@@ -33,14 +34,18 @@ file_rights = 0x001f01ff
 abbrev pub owner_mask : ℕ
 owner_mask = 0x00060000
 
--- the ACE is for the object itself: it lacks the flag INHERIT_ONLY_ACE, which has the bit of INHERIT_ONLY of NFSv4
--- (section 2.4.4.1)
+-- the ACE is for the object itself: it lacks the flag INHERIT_ONLY_ACE, which has the bit of
+-- INHERIT_ONLY of NFSv4 (section 2.4.4.1)
 abbrev pub is_for_object : NtAce → Bool
 is_for_object a = not (has_bit a.flags inherit_only)
 
+-- the ACE is for the object and names OWNER RIGHTS
+abbrev pub is_owner_ace : NtAce → Bool
+is_owner_ace a = is_for_object a && same_sid owner_rights a.sid
+
 -- some ACE for the object names OWNER RIGHTS
 abbrev pub has_owner_ace : List NtAce → Bool
-has_owner_ace aces = list_any (λ a. is_for_object a && same_sid owner_rights a.sid) aces
+has_owner_ace aces = list_any is_owner_ace aces
 
 -- there is an owner, and it is one of the SIDs of the token
 abbrev pub owns : Option Sid → List Sid → Bool
@@ -51,15 +56,18 @@ owns (Some o) token = is_sid_in o token
 abbrev pub is_for_token : Option Sid → List Sid → Sid → Bool
 is_for_token owner token x = is_sid_in x token || (same_sid owner_rights x && owns owner token)
 
--- The ACEs in order, and the rights that remain to be granted: an ALLOW of a SID that passes the test takes its rights
--- out; a DENY with a remaining right ends the check. Access is granted if no right remains.
+-- The ACEs in order, and the rights that remain to be granted: an ALLOW of a SID that passes the
+-- test takes its rights out; a DENY with a remaining right ends the check. Access is granted if no
+-- right remains.
 abbrev pub grants_rest : (Sid → Bool) → List NtAce → ℕ → Bool
 grants_rest named [] left = left == 0
-grants_rest named (a ∷ aces) left = if not (is_for_object a && named a.sid) then grants_rest named aces left
+grants_rest named (a ∷ aces) left =
+    if not (is_for_object a && named a.sid) then grants_rest named aces left
     else (if is_allow a.kind then grants_rest named aces (without left a.mask)
     else (bit_and left a.mask == 0 && grants_rest named aces left))
 
--- the rights that remain before the ACEs: the owner has READ_CONTROL and WRITE_DAC, unless an ACE is for OWNER RIGHTS
+-- the rights that remain before the ACEs: the owner has READ_CONTROL and WRITE_DAC, unless an ACE
+-- is for OWNER RIGHTS
 abbrev pub before_aces : Option Sid → List Sid → List NtAce → ℕ → ℕ
 before_aces owner token aces request =
     if owns owner token && not (has_owner_ace aces) then without request owner_mask else request

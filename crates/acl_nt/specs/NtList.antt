@@ -1,5 +1,5 @@
--- The NFSv4 list of a security descriptor, for its object itself (this library's own, over MS-DTYP, section 2.4.6, and
--- RFC 8881, section 6.2.1).
+-- The NFSv4 list of a security descriptor, for its object itself (this library's own, over MS-DTYP,
+-- section 2.4.6, and RFC 8881, section 6.2.1).
 use Rattle.std.specs.Prelude.{ℕ, ◌≡◌, ⊤, ◌||◌, IsFalse, IsTrue, codes, if◌then◌else◌, List, [], ◌∷◌, ◌++◌, map, filter, Option, Some, None, bit_and}
 use Rattle.std.specs.List.{AllByRecursion}
 use Rattle.acl_perm.specs.Bits.{identifier_group_alone}
@@ -24,12 +24,18 @@ sid_who x = if same_sid everyone_sid x then everyone_name else sid_name x
 
 -- no flag for everyone and for users, and IDENTIFIER_GROUP for any other SID
 abbrev pub sid_flags : List Sid → Sid → ℕ
-sid_flags users x = if same_sid everyone_sid x || is_sid_in x users then 0 else identifier_group_alone
+sid_flags users x =
+    if same_sid everyone_sid x || is_sid_in x users then 0 else identifier_group_alone
 
 -- the ACE of a SID, with those rights of a mask that are rights of files
 abbrev pub sid_ace : List Sid → Kind → ℕ → Sid → Ace
 sid_ace users kind mask x =
-    record { kind = kind; flags = sid_flags users x; mask = bit_and mask file_rights; who = sid_who x }
+    record {
+      kind = kind;
+      flags = sid_flags users x;
+      mask = bit_and mask file_rights;
+      who = sid_who x;
+    }
 
 -- OWNER RIGHTS stands for the owner, if there is one, and any other SID for itself
 abbrev pub stands_for : Option Sid → Sid → Sid
@@ -47,12 +53,14 @@ object_aces users owner aces = map (object_ace users owner) (filter is_for_objec
 -- the owner's two rights in front, if there is an owner and no ACE for OWNER RIGHTS
 abbrev pub implicit_aces : List Sid → Option Sid → List NtAce → List Ace
 implicit_aces users None aces = []
-implicit_aces users (Some o) aces = if has_owner_ace aces then [] else sid_ace users Allow owner_mask o ∷ []
+implicit_aces users (Some o) aces =
+    if has_owner_ace aces then [] else sid_ace users Allow owner_mask o ∷ []
 
 -- without a DACL, everybody is granted everything
 abbrev pub dacl_list : List Sid → Option Sid → Dacl → List Ace
 dacl_list users owner null = sid_ace users Allow file_rights everyone_sid ∷ []
-dacl_list users owner (entries aces) = implicit_aces users owner aces ++ object_aces users owner aces
+dacl_list users owner (entries aces) =
+    implicit_aces users owner aces ++ object_aces users owner aces
 
 -- the list of a descriptor, where these SIDs are users and all others are groups
 abbrev pub nt_list : List Sid → Descriptor → List Ace
@@ -69,8 +77,8 @@ IsNtListFault list Memory = ⊤
 abbrev pub sid_principal : List Sid → Sid → Principal
 sid_principal users x = if is_sid_in x users then user (sid_name x) else group_named (sid_name x)
 
--- the situation belongs to a token: the user or the group of a SID matches if and only if the SID is in the token;
--- the owner and the owning group are any
+-- the situation belongs to a token: the user or the group of a SID matches if and only if the SID
+-- is in the token; the owner and the owning group are any
 abbrev pub BelongsTo : List Sid → List Sid → Situation → Type 0
 BelongsTo users token s = (x : Sid) → IsSid x → IsFalse (same_sid everyone_sid x)
     → matches s (sid_principal users x) ≡ is_sid_in x token
@@ -90,7 +98,8 @@ pub record HasSids (d : Descriptor) : Type 0 where
   pub owner : HasOwnerSid d.owner
   pub dacl : HasSidsIn d.dacl
 
--- the name of the user with a token: that of its first SID that is a user, and no name of a SID if it has no user
+-- the name of the user with a token: that of its first SID that is a user, and no name of a SID if
+-- it has no user
 abbrev pub token_user : List Sid → List Sid → List ℕ
 token_user users [] = codes "nobody"
 token_user users (x ∷ token) = if is_sid_in x users then sid_name x else token_user users token

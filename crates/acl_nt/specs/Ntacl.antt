@@ -1,5 +1,5 @@
--- What is before the descriptor in the attribute `security.NTACL` of Samba (librpc/idl/xattr.idl), versions 1 to 4. The
--- faults are this library's own.
+-- What is before the descriptor in the attribute `security.NTACL` of Samba (librpc/idl/xattr.idl),
+-- versions 1 to 4. The faults are this library's own.
 use Rattle.std.specs.Prelude.{ℕ, ◌+◌, ◌-◌, ◌*◌, ◌/◌, ◌==◌, ◌&&◌, ◌||◌, Bool, not, List, [], ◌∷◌, ◌++◌, length, drop, min, take, nat_le, nat_lt, position, unwrap_or, if◌then◌else◌}
 use Rattle.acl_nt.specs.Conditions.{Condition, check}
 use Rattle.acl_nt.specs.Numbers.{byte_at, half_at, dword_at}
@@ -26,7 +26,8 @@ description_room bytes = take (min (length bytes - 78) 255) (drop 78 bytes)
 -- the place of the first byte after the description of version 4
 unfoldable pub description_end : List ℕ → ℕ
 description_end bytes =
-    78 + unwrap_or (position ends_description (description_room bytes)) (length (description_room bytes))
+    78 + unwrap_or (position ends_description (description_room bytes))
+    (length (description_room bytes))
 
 -- the place after the zero byte of the description and the padding up to a multiple of 4
 abbrev pub time_place : List ℕ → ℕ

@@ -1,5 +1,5 @@
--- The numbers at a place of a value (MS-DTYP, section 2.4.6: the lowest byte of each number is the first), and the bound
--- of the places that a value can name.
+-- The numbers at a place of a value (MS-DTYP, section 2.4.6: the lowest byte of each number is the
+-- first), and the bound of the places that a value can name.
 use Rattle.std.specs.Prelude.{ℕ, ◌^◌, ◌==◌, Bool, not, List, bit_and, drop, slice_index}
 use Rattle.byteorder.specs.Endian.{little_number}
 

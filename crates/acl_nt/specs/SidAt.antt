@@ -1,5 +1,6 @@
--- A SID at a place of a value (MS-DTYP, section 2.4.2.2): the revision 1, the number of sub-authorities, the authority
--- in six bytes with the highest first, and the sub-authorities in four bytes each with the lowest first.
+-- A SID at a place of a value (MS-DTYP, section 2.4.2.2): the revision 1, the number of
+-- sub-authorities, the authority in six bytes with the highest first, and the sub-authorities in
+-- four bytes each with the lowest first.
 use Rattle.std.specs.Prelude.{ℕ, ◌+◌, ◌*◌, ◌/◌, ◌==◌, List, [], ◌∷◌, length, drop, take, map, nat_le}
 use Rattle.std.specs.Simd.{first_chunks}
 use Rattle.byteorder.specs.Endian.{big_number, little_number}

@@ -13,7 +13,8 @@ use Rattle.acl_nt.specs.declared.role.Role.TheVariants.{Deciding, DecidingPart}
 
 -- the conditions on a value of a form
 abbrev pub conditions : Role → NtForm → List ℕ → List Condition
-conditions role form bytes = frame_conditions form bytes ++ descriptor_conditions role bytes (base_of form bytes)
+conditions role form bytes =
+    frame_conditions form bytes ++ descriptor_conditions role bytes (base_of form bytes)
 
 -- the value meets the conditions, and its parts are those of the descriptor
 pub record SpellsDescriptor (form : NtForm) (d : Descriptor) (bytes : List ℕ) : Type 0 where
@@ -25,7 +26,8 @@ abbrev pub IsFirstNtFault : NtForm → List ℕ → NtFault → Type 0
 IsFirstNtFault form bytes fault = first_unmet (conditions Deciding form bytes) ≡ Some fault
 
 -- the same of a value whose DACL may have ACEs that are left out, which are these
-pub record SpellsDescriptorPart (form : NtForm) (d : Descriptor) (left_out : List OtherAce) (bytes : List ℕ) : Type 0 where
+pub record SpellsDescriptorPart (form : NtForm) (d : Descriptor) (left_out : List OtherAce)
+    (bytes : List ℕ) : Type 0 where
   pub met : AreMet (conditions DecidingPart form bytes)
   pub is : d ≡ descriptor_at DecidingPart bytes (base_of form bytes)
   pub others : left_out ≡ left_out_at DecidingPart bytes (dword_at bytes (base_of form bytes + 16))

@@ -1,7 +1,7 @@
 //! Reads an ACE at a place of a value.
 ghost use Rattle.std.specs.Prelude.{◌≡◌, ◌+◌, ◌<◌, ◌≤◌, IfSome, IsNone, OnOk, Some, length, if◌then◌else◌, ◌==◌};
 ghost use Rattle.acl_perm.specs.declared.kind.Kind.TheVariants.{Allow, Deny};
-ghost use Rattle.acl_nt.specs.AceAt.{nt_ace_at, ace_conditions, ace_size, are_flags, generic_part, generic_rights, has_objects, is_expanded, is_literal, objects_size, sid_place};
+ghost use Rattle.acl_nt.specs.AceAt.{nt_ace_at, ace_conditions, ace_head_conditions, ace_sid_conditions, ace_size, are_flags, generic_part, generic_rights, has_objects, is_expanded, is_literal, objects_size, sid_place};
 ghost use Rattle.acl_nt.specs.Conditions.{ReadsUnder, first_unmet};
 ghost use Rattle.acl_nt.specs.Descriptor.{nt_ace};
 ghost use Rattle.acl_nt.specs.Numbers.{byte_at, place_limit};
@@ -17,7 +17,6 @@ use acl_perm::Kind;
 
 /// Returns the ACE at a place of an ACL that ends at another place. The kind of an ACE that neither allows nor denies
 /// has no meaning.
-#[tactic(auto, unfolding(crate::specs::AceAt::nt_ace_at))]
 pub(crate) fn read_ace(role: Role, bytes: &[u8], at: usize, end: usize) -> Result<NtAce, NtFault>
     requires begins { at ≤ end }
     requires inside { end ≤ length bytes.now }
@@ -25,20 +24,35 @@ pub(crate) fn read_ace(role: Role, bytes: &[u8], at: usize, end: usize) -> Resul
     ensures exact { ReadsUnder nt_ace result (ace_conditions role bytes.now end at) (nt_ace_at bytes.now at) }
     ensures roomy { OnOk result (IsRoomy bytes.now at end) }
 {
-    if let Some(fault) = head_fault(role, bytes, at, end) {
-        return Err(fault);
+    match head_fault(role, bytes, at, end) {
+        Some(fault) => Err(fault),
+        None => read_after_head(role, bytes, at),
     }
+}
+
+// Returns the ACE at a place, with its SID.
+#[tactic(auto, unfolding(crate::specs::AceAt::nt_ace_at))]
+fn read_after_head(role: Role, bytes: &[u8], at: usize) -> Result<NtAce, NtFault>
+    requires whole { at + 16 ≤ length bytes.now }
+    requires inside { at + ace_size bytes.now at ≤ length bytes.now }
+    requires small { at + 100 < place_limit }
+    ensures { ReadsUnder nt_ace result (ace_sid_conditions role bytes.now at) (nt_ace_at bytes.now at) }
+{
     let sid = read_sid(
         bytes,
         sid_place(bytes, at),
         at + half(bytes, at + 2) as usize,
     )?;
-    Ok(NtAce {
+    let ace = NtAce {
         kind: kind_of(bytes[at]),
         flags: bytes[at + 1],
         mask: word(bytes, at + 4),
         sid,
-    })
+    };
+    if !role.keeps_owner_ace(bytes[at], &ace) {
+        return Err(NtFault::new(at, NtReason::AceType));
+    }
+    Ok(ace)
 }
 
 fn kind_of(number: u8) -> Kind
@@ -48,16 +62,12 @@ fn kind_of(number: u8) -> Kind
 }
 
 // Returns what is wrong with the fields of an ACE before its SID.
-#[tactic(auto, unfolding(crate::specs::AceAt::ace_conditions))]
+#[tactic(auto, unfolding(crate::specs::AceAt::ace_head_conditions))]
 fn head_fault(role: Role, bytes: &[u8], at: usize, end: usize) -> Option<NtFault>
     requires begins { at ≤ end }
     requires inside { end ≤ length bytes.now }
     requires small { end + 100 < place_limit }
-    ensures fault { IfSome result (λ fault.
-        first_unmet (ace_conditions role bytes.now end at) ≡ Some fault) }
-    ensures then_sid { IsNone result → first_unmet (ace_conditions role bytes.now end at)
-        ≡ first_unmet (sid_conditions bytes.now (sid_place bytes.now at)
-        (at + ace_size bytes.now at)) }
+    ensures exact { result ≡ first_unmet (ace_head_conditions role bytes.now end at) }
     ensures roomy { IsNone result → IsRoomy bytes.now at end }
 {
     if end - at < 8 {

@@ -54,7 +54,8 @@ pub enum NtReason {
     /// The ACL has more than 2,000 ACEs.
     #[error("AceCount")]
     AceCount,
-    /// The type of the ACE is one that the reader refuses.
+    /// The type of the ACE is one that the reader refuses, or the ACE would be left out of a part although it takes the
+    /// owner's own rights.
     #[error("AceType")]
     AceType,
     /// The ACE has a flag that has no meaning.

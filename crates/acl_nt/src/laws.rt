@@ -10,6 +10,10 @@ ghost use Rattle.acl_nt.specs.NtCheck.{everyone_sid, file_rights, is_sid_in, nt_
 ghost use Rattle.acl_nt.specs.NtList.{BelongsTo, HasOneUser, HasSids, nt_list, token_user};
 ghost use Rattle.acl_nt.specs.Sid.{IsSid, Sid};
 ghost use Rattle.acl_nt.specs.SidName.{sid_name};
+ghost use Rattle.acl_nt.specs.Spells.{SpellsDescriptorPart};
+ghost use Rattle.acl_nt.specs.ValueCheck.{value_check};
+ghost use Rattle.acl_nt.specs.declared.ace.OtherAce.{OtherAce};
+ghost use Rattle.acl_nt.specs.declared.form.NtForm.{NtForm};
 
 /// The access check grants exactly what the list of the descriptor grants, for each descriptor and each request of
 /// rights of files, to each requester whose token has S-1-1-0 and has not S-1-3-4, which is only a placeholder.
@@ -18,6 +22,17 @@ pub fn nt_check_is_grant()
         → IsTrue (is_sid_in everyone_sid token) → IsFalse (is_sid_in owner_rights token)
         → BelongsTo users token s → IsSubset request file_rights
         → IsTrue (nt_check d token request) ↔ Grant (nt_list users d) s request }
+{}
+
+/// A part of a descriptor grants no more than the whole DACL of its value, to any token, whatever rights the object and
+/// conditional ALLOWs that are left out grant to this token. If they grant none, it grants the same.
+pub fn part_grants_no_more()
+    ensures at_most { (form : NtForm) (bytes : List ℕ) (part : Descriptor) (out : List OtherAce)
+        → SpellsDescriptorPart form part out bytes → (token : List Sid) (given : ℕ → ℕ) (request : ℕ)
+        → IsTrue (nt_check part token request) → IsTrue (value_check form bytes token given request) }
+    ensures at_least { (form : NtForm) (bytes : List ℕ) (part : Descriptor) (out : List OtherAce)
+        → SpellsDescriptorPart form part out bytes → (token : List Sid) (request : ℕ)
+        → value_check form bytes token (λ _. 0) request ≡ nt_check part token request }
 {}
 
 /// A requester whose groups have the names of the SIDs of a token, and whose user name is that of the user in it,

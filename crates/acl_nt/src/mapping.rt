@@ -7,7 +7,7 @@ ghost use Rattle.acl_nt.specs.NtCheck.{everyone_sid, file_rights, has_owner_ace,
 ghost use Rattle.acl_nt.specs.NtList.{IsNtListFault, nt_list, object_ace, object_aces, implicit_aces, sid_ace, sid_flags, stands_for};
 ghost use Rattle.acl_nt.specs.Sid.{sid as sid_of};
 
-use crate::ace::NtAce;
+use crate::ace::{NtAce, is_for_object, is_owner_ace, is_owner_rights};
 use crate::descriptor::{Dacl, NtDescriptor};
 use crate::sid::Sid;
 use acl_nfs4::internal::EVERYONE_NAME;
@@ -20,9 +20,6 @@ const FILE_RIGHTS: u32 = 0x001f_01ff;
 
 /// READ_CONTROL and WRITE_DAC, which the owner has.
 const OWNER_MASK: u32 = 0x0006_0000;
-
-/// The flag INHERIT_ONLY_ACE.
-const INHERIT_ONLY: u8 = 8;
 
 /// Why there is no list for a security descriptor.
 #[derive(Clone, Copy, Debug, PartialEq, Eq, Error)]
@@ -228,18 +225,6 @@ fn has_owner_ace(aces: &[NtAce]) -> bool
     aces.iter().any(|ace| is_owner_ace(ace))
 }
 
-fn is_owner_ace(ace: &NtAce) -> bool
-    ensures { result ≡ (is_for_object (nt_ace ace.now) && same_sid owner_rights (sid_of ace.now.sid)) }
-{
-    is_for_object(ace) && is_owner_rights(&ace.sid)
-}
-
-fn is_for_object(ace: &NtAce) -> bool
-    ensures { result ≡ is_for_object (nt_ace ace.now) }
-{
-    ace.flags & INHERIT_ONLY == 0
-}
-
 fn is_user(sid: &Sid, users: &[Sid]) -> bool
     ensures { result ≡ is_sid_in (sid_of sid.now) (map sid_of users.now) }
 {
@@ -256,10 +241,4 @@ fn is_everyone(sid: &Sid) -> bool
     ensures { result ≡ same_sid everyone_sid (sid_of sid.now) }
 {
     sid.authority == 1 && sid.words.as_slice() == [0].as_slice()
-}
-
-fn is_owner_rights(sid: &Sid) -> bool
-    ensures { result ≡ same_sid owner_rights (sid_of sid.now) }
-{
-    sid.authority == 3 && sid.words.as_slice() == [4].as_slice()
 }

@@ -24,13 +24,13 @@ use std::alloc::Global;
 /// between them, and may share bytes; bytes may follow the last one. The DACL may have ALLOW and DENY ACEs alone
 /// (sections 2.4.4.2 and 2.4.4.4). In `NtForm::Ntacl` the offsets count from the start of the value.
 ///
-/// Fails with the first fault in this order: of what is before the descriptor, field by field, Truncated, Version, Pointer
-/// or Description; of the header, Truncated, Revision, NotSelfRelative, NoDacl, and Offset of the owner, the group, the
-/// SACL and the DACL; then of the owner, the group, the SACL and the DACL themselves. A SID (section 2.4.2) has
-/// Truncated, SidRevision, SidCount, and Truncated of its sub-authorities; an ACL (section 2.4.5) Truncated,
+/// Fails with the first fault in this order: of what is before the descriptor, field by field, Truncated, Version,
+/// Pointer or Description; of the header, Truncated, Revision, NotSelfRelative, NoDacl, and Offset of the owner, the
+/// group, the SACL and the DACL; then of the owner, the group, the SACL and the DACL themselves. A SID (section 2.4.2)
+/// has Truncated, SidRevision, SidCount, and Truncated of its sub-authorities; an ACL (section 2.4.5) Truncated,
 /// AclRevision, AclSbz, AclSize, AceCount, AclSbz; each of its ACEs (section 2.4.4) Truncated, AceType, AceFlags,
-/// AceSize, Generic, and the faults of its SID. If memory runs out, the reason is Memory. It takes time that is linear in
-/// the number of bytes.
+/// AceSize, Generic, and the faults of its SID. If memory runs out, the reason is Memory. It takes time that is linear
+/// in the number of bytes.
 pub fn read_nt(alloc: Global, form: NtForm, bytes: &[u8]) -> Result<NtDescriptor, NtFault>
     ensures found { IfOk result (λ d. SpellsDescriptor form (descriptor d) bytes.now) }
     // If the bytes spell a descriptor, that descriptor is returned.
@@ -51,8 +51,10 @@ pub fn read_nt(alloc: Global, form: NtForm, bytes: &[u8]) -> Result<NtDescriptor
 /// that is left out has wrong, and with AceType for any other type, as object DENY (6) and conditional DENY (10, 12).
 /// It takes time that is linear in the number of bytes.
 ///
-/// The descriptor can grant more than the value: an ACE of OWNER RIGHTS (S-1-3-4), of whatever type, takes READ_CONTROL
-/// and WRITE_DAC from the owner, who has them if it is left out. So nobody may be granted anything by a part alone.
+/// The descriptor grants no more than the whole DACL of the value, to anybody, whatever rights the ALLOWs that are left
+/// out grant (`laws::part_grants_no_more`). It can grant less. An ACE of OWNER RIGHTS (S-1-3-4), of whatever type,
+/// takes READ_CONTROL and WRITE_DAC from the owner, unless it has INHERIT_ONLY. So no such ACE is left out: one of a
+/// type that would be left out is refused with AceType, after the faults of its SID.
 pub fn read_nt_part(alloc: Global, form: NtForm, bytes: &[u8]) -> Result<NtPart, NtFault>
     ensures found { IfOk result (λ part.
         SpellsDescriptorPart form (descriptor part.descriptor) part.left_out.items bytes.now) }

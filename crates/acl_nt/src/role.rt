@@ -1,6 +1,9 @@
 //! What the ACEs of an ACL are read for.
 ghost use Rattle.std.specs.Prelude.{◌≡◌};
-ghost use Rattle.acl_nt.specs.AceAt.{type_decides, is_left_out, is_plain_type, takes_type};
+ghost use Rattle.acl_nt.specs.AceAt.{keeps_owner_ace, type_decides, is_left_out, is_plain_type, takes_type};
+ghost use Rattle.acl_nt.specs.Descriptor.{nt_ace};
+
+use crate::ace::{NtAce, is_owner_ace};
 
 /// What the ACEs of an ACL are read for.
 #[derive(Clone, Copy)]
@@ -30,6 +33,15 @@ impl Role {
         match self {
             Role::Deciding | Role::DecidingPart => is_plain(number),
             Role::Auditing => false,
+        }
+    }
+
+    pub(crate) fn keeps_owner_ace(self, number: u8, ace: &NtAce) -> bool
+        ensures { result ≡ keeps_owner_ace self number (nt_ace ace.now) }
+    {
+        match self {
+            Role::Deciding | Role::Auditing => true,
+            Role::DecidingPart => !(is_left_out(number) && is_owner_ace(ace)),
         }
     }
 }

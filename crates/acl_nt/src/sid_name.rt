@@ -14,8 +14,8 @@ use std::alloc::{AllocError, Global};
 
 impl Sid {
     /// Returns the name of the SID, as `S-1-5-32-544` (MS-DTYP, section 2.4.2.1). The authority is in decimal digits if
-    /// it is below 4294967296, and otherwise `0x` and twelve small hexadecimal digits. No other SID has this name. Fails
-    /// if memory runs out.
+    /// it is below 4294967296, and otherwise `0x` and twelve small hexadecimal digits. No other SID has this name.
+    /// Fails if memory runs out.
     pub fn name(&self, alloc: Global) -> Result<Vec<u8>, AllocError>
         ensures { IfOk result (λ name. name.items ≡ sid_name (sid self.now)) }
     {

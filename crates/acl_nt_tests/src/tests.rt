@@ -1,4 +1,5 @@
 //! The tests of this crate, with values of Samba.
 
 mod lists;
+mod parts;
 mod values;

@@ -1,4 +1,5 @@
--- What a reader of a part has read, and what a header without a fault says of the parts after it (this library's own).
+-- What a reader of a part has read, and what a header without a fault says of the parts after it
+-- (this library's own).
 use Rattle.std.specs.Prelude.{ℕ, ◌+◌, ◌≤◌, List, [], ◌∷◌, ◌++◌, length, map, if◌then◌else◌, Option, None, Some, option_map}
 use Rattle.acl_nt.specs.AceAt.{ace_size, type_decides}
 use Rattle.acl_nt.specs.AclAt.{ace_count, acl_end, most_nt_aces}
@@ -13,8 +14,10 @@ use Rattle.acl_nt.specs.declared.descriptor.NtPart.{NtPart}
 abbrev pub aces : Aces → List NtAce × List OtherAce
 aces a = (map nt_ace a.deciding.items, a.others.items)
 
--- the ACEs with one more: with the first of two if its type decides, and with the second if it does not
-abbrev pub aces_added : Role → List NtAce × List OtherAce → NtAce → OtherAce → List NtAce × List OtherAce
+-- the ACEs with one more: with the first of two if its type decides, and with the second if it does
+-- not
+abbrev pub aces_added : Role → List NtAce × List OtherAce → NtAce → OtherAce
+    → List NtAce × List OtherAce
 aces_added role a ace other =
     if type_decides role other.type_number then (a.0 ++ ace ∷ [], a.1) else (a.0, a.1 ++ other ∷ [])
 

@@ -6,7 +6,7 @@ use acl_nfs4::*;
 use acl_nt::*;
 use std::alloc::Global;
 
-const EVERYONE: &[u8] = b"S-1-1-0";
+pub const EVERYONE: &[u8] = b"S-1-1-0";
 
 const AUTHENTICATED: &[u8] = b"S-1-5-11";
 
@@ -16,7 +16,7 @@ const DOMAIN_USERS: &[u8] = b"S-1-5-21-11-22-33-513";
 
 const AMY: &[u8] = b"S-1-5-21-11-22-33-1104";
 
-const BOB: &[u8] = b"S-1-5-21-11-22-33-1105";
+pub const BOB: &[u8] = b"S-1-5-21-11-22-33-1105";
 
 const STAFF: &[u8] = b"S-1-5-21-11-22-33-1201";
 
@@ -151,7 +151,7 @@ static ROWS: [Row; 10] = [
 const FILE_RIGHTS: u32 = 0x001f_01ff;
 
 // Returns whether a list grants a member of these groups these rights of files alone.
-fn is_granted(list: &Acl, groups: &[&[u8]], rights: u32) -> bool {
+pub fn is_granted(list: &Acl, groups: &[&[u8]], rights: u32) -> bool {
     match (
         Object::new(b"owner", b"group"),
         Requester::new(b"user", groups),

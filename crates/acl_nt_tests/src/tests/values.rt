@@ -1,8 +1,10 @@
 //! Values that Samba 4.22 made and read. The places and the reasons of the faults are this library's own.
 
-use acl_nt::internal::read_nt_part;
 use acl_nt::*;
 use std::alloc::Global;
+
+mod descriptors;
+mod ntacl;
 
 // An authority and sub-authorities.
 type SidRow = (u64, &'static [u32]);
@@ -18,266 +20,8 @@ struct Row {
     audits: Option<usize>,
 }
 
-static ROWS: [Row; 10] = [
-    Row {
-        form: NtForm::Descriptor,
-        value: b"\x01\0\x04\x80\0\0\0\0\0\0\0\0\0\0\0\0\0\0\0\0",
-        control: 32772,
-        owner: None,
-        group: None,
-        dacl: None,
-        audits: None,
-    },
-    Row {
-        form: NtForm::Descriptor,
-        value: b"\x01\x07\x04\x80\x14\0\0\0\0\0\0\0\0\0\0\0\x20\0\0\0\x01\x01\0\0\0\0\0\0\0\0\0\0\x02\0\x08\0\0\0\0\0",
-        control: 32772,
-        owner: Some((0, &[0])),
-        group: None,
-        dacl: Some(&[]),
-        audits: None,
-    },
-    Row {
-        form: NtForm::Descriptor,
-        value: b"\x01\0\x0c\x80\x30\0\0\0\0\0\0\0\0\0\0\0\x14\0\0\0\x04\0\x1c\0\x01\0\0\0\0\x06\x14\0\x04\0\0\0\x01\
-        \x01\0\0\0\0\0\x05\x0a\0\0\0\x01\x01\0\0\0\0\0\x05\x09\0\0\0",
-        control: 32780,
-        owner: Some((5, &[9])),
-        group: None,
-        dacl: Some(&[(Kind::Allow, 6, 4, (5, &[10]))]),
-        audits: None,
-    },
-    Row {
-        form: NtForm::Descriptor,
-        value: b"\x01\0\x0c\x80\x14\0\0\0\0\0\0\0\0\0\0\0\x24\0\0\0\x01\x01\0\0\0\0\0\x03\x04\0\0\0\0\0\0\0\x04\0\x34\
-        \0\x02\0\0\0\0\x0a\x14\0\0\0\0\x40\x01\x01\0\0\0\0\0\x05\x07\0\0\0\0\0\x18\0\xa9\0\x12\0\x01\x02\0\0\
-        \0\0\0\x05\x20\0\0\0\x21\x02\0\0\0\0\0\0",
-        control: 32780,
-        owner: Some((3, &[4])),
-        group: None,
-        dacl: Some(&[
-            (Kind::Allow, 10, 1073741824, (5, &[7])),
-            (Kind::Allow, 0, 1179817, (5, &[32, 545])),
-        ]),
-        audits: None,
-    },
-    Row {
-        form: NtForm::Descriptor,
-        value: b"\x01\0\x04\x81\x30\0\0\0\x14\0\0\0\0\0\0\0\x3c\0\0\0\x01\x05\0\0\0\0\0\x05\x15\0\0\0\x0b\0\0\0\x16\0\
-        \0\0\x21\0\0\0\0\x02\0\0\x01\x01\0\0\0\0\0\x05\0\0\0\0\x02\0\x30\0\x02\0\0\0\0\x09\x14\0\xff\x01\x1f\
-        \0\x01\x01\0\x01\0\0\0\0\x07\0\0\0\0\x09\x14\0W\0\x0d\0\x01\x01\0\0\0\0\0\x05\x09\0\0\0",
-        control: 33028,
-        owner: Some((5, &[0])),
-        group: Some((5, &[21, 11, 22, 33, 512])),
-        dacl: Some(&[
-            (Kind::Allow, 9, 2032127, (4294967296, &[7])),
-            (Kind::Allow, 9, 852055, (5, &[9])),
-        ]),
-        audits: None,
-    },
-    Row {
-        form: NtForm::Descriptor,
-        value: b"\x01\0\x14\x90L\0\0\0X\0\0\0\x14\0\0\0\x1c\0\0\0\x02\0\x08\0\0\0\0\0\x02\0\x30\0\x02\0\0\0\x01\x03\
-        \x14\0\0\0\0\0\x01\x01\0\0\0\0\0\x05\x07\0\0\0\0\x13\x14\0\xff\x01\x1f\0\x01\x01\0\0\0\0\0\x03\x04\0\
-        \0\0\x01\x01\0\0\0\0\0\x10\0\x20\0\0\x01\x05\0\0\0\0\0\x05\x15\0\0\0\x0b\0\0\0\x16\0\0\0\x21\0\0\0\
-        \xb2\x04\0\0",
-        control: 36884,
-        owner: Some((16, &[8192])),
-        group: Some((5, &[21, 11, 22, 33, 1202])),
-        dacl: Some(&[
-            (Kind::Deny, 3, 0, (5, &[7])),
-            (Kind::Allow, 19, 2032127, (3, &[4])),
-        ]),
-        audits: Some(0),
-    },
-    Row {
-        form: NtForm::Ntacl,
-        value: b"\x01\0\x01\0\0\0\x02\0\x01\0\x04\x90\x1c\0\0\0\x28\0\0\0\0\0\0\0D\0\0\0\x01\x01\0\0\0\0\0\x05\x12\0\
-        \0\0\x01\x05\0\0\0\0\0\x05\x15\0\0\0\x0b\0\0\0\x16\0\0\0\x21\0\0\0\x01\x02\0\0\x04\0\x1c\0\x01\0\0\0\
-        \0\x0f\x14\0\0\0\x01\0\x01\x01\0\0\0\0\0\x05\x12\0\0\0",
-        control: 36868,
-        owner: Some((5, &[18])),
-        group: Some((5, &[21, 11, 22, 33, 513])),
-        dacl: Some(&[(Kind::Allow, 15, 65536, (5, &[18]))]),
-        audits: None,
-    },
-    Row {
-        form: NtForm::Ntacl,
-        value: b"\x02\0\x02\0\0\0\x02\0\x04\0\x02\0\xe6a\x9fB\x3do\x2f\x12S\x5f\xc2\x90\x95\xc0\x3a\xec\x01\0\x04\x90\
-        \x30\0\0\0\x3c\0\0\0\0\0\0\0X\0\0\0\x01\x01\0\0\0\0\0\x05\x12\0\0\0\x01\x05\0\0\0\0\0\x05\x15\0\0\0\
-        \x0b\0\0\0\x16\0\0\0\x21\0\0\0\xb1\x04\0\0\x04\0\x2c\0\x01\0\0\0\0\x13\x24\0\xff\x01\x1f\0\x01\x05\0\
-        \0\0\0\0\x05\x15\0\0\0\x0b\0\0\0\x16\0\0\0\x21\0\0\0R\x04\0\0",
-        control: 36868,
-        owner: Some((5, &[18])),
-        group: Some((5, &[21, 11, 22, 33, 1201])),
-        dacl: Some(&[(Kind::Allow, 19, 2032127, (5, &[21, 11, 22, 33, 1106]))]),
-        audits: None,
-    },
-    Row {
-        form: NtForm::Ntacl,
-        value: b"\x03\0\x03\0\0\0\x02\0\x04\0\x02\0\x02\0\x32\xb6\xd9\xbeY\xa8\x98\xa3\xe3\x99\xa5\xad\x1c\x0a\xc7\
-        \x11\x29c\xe3\x96T\xabG\x9d\xe3\xe5\xcf\xaf\xb2\0\x95S\0\0\0\0\0\x01\0\0\0\0\0\0\0\0\0\0\0\0\0\0\0\0\
-        \0\0\0\0\0\0\0\0\0\0\0\0\x01\0\x04\x80d\0\0\0t\0\0\0\0\0\0\0\x90\0\0\0\x01\x02\0\0\0\0\0\x05\x20\0\0\
-        \0\x20\x02\0\0\x01\x05\0\0\0\0\0\x05\x15\0\0\0\x0b\0\0\0\x16\0\0\0\x21\0\0\0\xb1\x04\0\0\x04\0\x1c\0\
-        \x01\0\0\0\x01\x05\x14\0\xa0\0\x12\0\x01\x01\0\0\0\0\0\x05\x12\0\0\0",
-        control: 32772,
-        owner: Some((5, &[32, 544])),
-        group: Some((5, &[21, 11, 22, 33, 1201])),
-        dacl: Some(&[(Kind::Deny, 5, 1179808, (5, &[18]))]),
-        audits: None,
-    },
-    Row {
-        form: NtForm::Ntacl,
-        value: b"\x04\0\x04\0\0\0\x02\0\x04\0\x02\0\x01\0\x91\x30j\x0fn\x8d\xdb\xc3BC\x12\x91\x12Fy\xb1H\x81\x96\xfeD\
-        \xe5D\x89\x19\xabR\x04\xbc\x9d\x3f\x2d\0\0\0\0\0\0\0\0\0\0\0\0\0\0\0\0\0\0\0\0\0\0\0\0\0\0\0\0\0\0\0\
-        \0zfsacl\x31\x32\0\0\0\0\0\0\0\0\0\0D\x1bb\x8b\x5b\x95\xecd\xa3\xf3\x29\xba\x28\xa7\xa7J\xedxf\x0bkw\
-        \xe7IA\x7de\x3e\x0dE\xb3\x0d\0\0\0\0\0\0\0\0\0\0\0\0\0\0\0\0\0\0\0\0\0\0\0\0\0\0\0\0\0\0\0\0\x01\0\
-        \x04\x80\xb4\0\0\0\xc0\0\0\0\0\0\0\0\xdc\0\0\0\x01\x01\0\0\0\0\0\x05\x12\0\0\0\x01\x05\0\0\0\0\0\x05\
-        \x15\0\0\0\x0b\0\0\0\x16\0\0\0\x21\0\0\0\xb2\x04\0\0\x04\0\x1c\0\x01\0\0\0\x01\xc0\x14\0\xa9\0\x12\0\
-        \x01\x01\0\0\0\0\0\x05\x09\0\0\0",
-        control: 32772,
-        owner: Some((5, &[18])),
-        group: Some((5, &[21, 11, 22, 33, 1202])),
-        dacl: Some(&[(Kind::Deny, 192, 1179817, (5, &[9]))]),
-        audits: None,
-    },
-];
-
 // A value, and the place and the reason of its first fault.
-static FAULTS: [(NtForm, &[u8], u64, NtReason); 18] = [
-    (
-        NtForm::Descriptor,
-        b"\x01\0\x04\x80\x1c\0\0\0\x28\0\0\0\0\0\0\0\x14\0\0\0\x02\0\x08\0\xd1\x07\0\0\x01\x01\0\0\0\0\0\x05\
-        \x12\0\0\0\x01\x01\0\0\0\0\0\x05\x12\0\0\0",
-        24,
-        NtReason::AceCount,
-    ),
-    (
-        NtForm::Descriptor,
-        b"\x01\0\x04\x80\x14\0\0\0\x20\0\0\0\0\0\0\0\x2c\0\0\0\x01\x01\0\0\0\0\0\x05\x12\0\0\0\x01\x01\0\0\0\0\
-        \0\x05\x12\0\0\0\x02\0\x40\0\x02\0\0\0\0\x20\x14\0\xa9\0\x12\0\x01\x01\0\0\0\0\0\x01\0\0\0\0\x01\x0b\
-        \x24\0\xff\x01\x1f\0\x01\x05\0\0\0\0\0\x05\x15\0\0\0\x0b\0\0\0\x16\0\0\0\x21\0\0\0P\x04\0\0",
-        53,
-        NtReason::AceFlags,
-    ),
-    (
-        NtForm::Descriptor,
-        b"\x01\0\x04\x80\x14\0\0\0\x20\0\0\0\0\0\0\0\x30\0\0\0\x01\x01\0\0\0\0\0\x05\x12\0\0\0\x01\x02\0\0\0\0\
-        \0\x05\x20\0\0\0\x20\x02\0\0\x02\0\x14\0\x01\0\0\0\0\x0b\x14\0\x1a\0\x12\0\x01\x01\0\0\0\0\0\x01\0\0\
-        \0\0",
-        58,
-        NtReason::AceSize,
-    ),
-    (
-        NtForm::Descriptor,
-        b"\x01\0\x04\x80\x14\0\0\0\x24\0\0\0\0\0\0\0\x34\0\0\0\x01\x02\0\0\0\0\0\x05\x20\0\0\0\x20\x02\0\0\x01\
-        \x02\0\0\0\0\0\x05\x20\0\0\0\x20\x02\0\0\x02\0\x1c\0\x01\0\0\0\x05\x0b\x14\0\0\0\x01\0\x01\x01\0\0\0\
-        \0\0\x05\x12\0\0\0",
-        60,
-        NtReason::AceType,
-    ),
-    (
-        NtForm::Descriptor,
-        b"\x01\0\x04\x80\x1c\0\0\0\x2c\0\0\0\0\0\0\0\x14\0\0\0\x03\0\x08\0\0\0\0\0\x01\x02\0\0\0\0\0\x05\x20\0\
-        \0\0\x20\x02\0\0\x01\x01\0\0\0\0\0\x05\x12\0\0\0",
-        20,
-        NtReason::AclRevision,
-    ),
-    (
-        NtForm::Descriptor,
-        b"\x01\0\x04\x80\x1c\0\0\0\x28\0\0\0\0\0\0\0\x14\0\0\0\x02\x14\x08\0\0\0\0\0\x01\x01\0\0\0\0\0\x05\x12\
-        \0\0\0\x01\x01\0\0\0\0\0\x05\x12\0\0\0",
-        21,
-        NtReason::AclSbz,
-    ),
-    (
-        NtForm::Descriptor,
-        b"\x01\0\x04\x80\x1c\0\0\0\x28\0\0\0\0\0\0\0\x14\0\0\0\x02\0\x08\x01\0\0\0\0\x01\x01\0\0\0\0\0\x05\x12\
-        \0\0\0\x01\x01\0\0\0\0\0\x05\x12\0\0\0",
-        22,
-        NtReason::AclSize,
-    ),
-    (
-        NtForm::Descriptor,
-        b"\x01\0\x04\x80\x14\0\0\0\x24\0\0\0\0\0\0\0\x34\0\0\0\x01\x02\0\0\0\0\0\x05\x20\0\0\0\x20\x02\0\0\x01\
-        \x02\0\0\0\0\0\x05\x20\0\0\0\x20\x02\0\0\x02\0\x1c\0\x01\0\0\0\x01\x03\x14\0\xa9\0\x12\xff\x01\x01\0\
-        \0\0\0\0\x05\x12\0\0\0",
-        64,
-        NtReason::Generic,
-    ),
-    (
-        NtForm::Descriptor,
-        b"\x01\0\x01\x80\x14\0\0\0\x24\0\0\0\0\0\0\0\x30\0\0\0\x01\x02\0\0\0\0\0\x05\x20\0\0\0\x20\x02\0\0\x01\
-        \x01\0\0\0\0\0\x05\x12\0\0\0\x02\0\x08\0\0\0\0\0",
-        2,
-        NtReason::NoDacl,
-    ),
-    (
-        NtForm::Descriptor,
-        b"\x01\0\x04\x01\x1c\0\0\0\x2c\0\0\0\0\0\0\0\x14\0\0\0\x02\0\x08\0\0\0\0\0\x01\x02\0\0\0\0\0\x05\x20\0\
-        \0\0\x20\x02\0\0\x01\x01\0\0\0\0\0\x05\x12\0\0\0",
-        2,
-        NtReason::NotSelfRelative,
-    ),
-    (
-        NtForm::Descriptor,
-        b"\x01\0\x14\x80L\0\0\0X\0\0\0\x14\0\0\0\x30\0\0\0",
-        4,
-        NtReason::Offset,
-    ),
-    (
-        NtForm::Descriptor,
-        b"\x08\0\x04\x80\x14\0\0\0\x24\0\0\0\0\0\0\0\x30\0\0\0\x01\x02\0\0\0\0\0\x05\x20\0\0\0\x20\x02\0\0\x01\
-        \x01\0\0\0\0\0\x05\x12\0\0\0\x02\0\x08\0\0\0\0\0",
-        0,
-        NtReason::Revision,
-    ),
-    (
-        NtForm::Descriptor,
-        b"\x01\0\x04\x80\x14\0\0\0\x24\0\0\0\0\0\0\0\x34\0\0\0\x01\x02\0\0\0\0\0\x05\x20\0\0\0\x20\x02\0\0\x01\
-        \x02\0\0\0\0\0\x05\x20\0\0\0\x20\x02\0\0\x02\0\x1c\0\x01\0\0\0\x01\x0b\x14\0\0\0\x01\0\x01\x10\0\0\0\
-        \0\0\x05\x12\0\0\0",
-        69,
-        NtReason::SidCount,
-    ),
-    (
-        NtForm::Descriptor,
-        b"\x01\0\x04\x80\x1c\0\0\0\x28\0\0\0\0\0\0\0\x14\0\0\0\x02\0\x08\0\0\0\0\0\x02\x01\0\0\0\0\0\x05\x12\0\
-        \0\0\x01\x01\0\0\0\0\0\x05\x12\0\0\0",
-        28,
-        NtReason::SidRevision,
-    ),
-    (
-        NtForm::Descriptor,
-        b"\x01\0\x04\x80\x14",
-        0,
-        NtReason::Truncated,
-    ),
-    (
-        NtForm::Ntacl,
-        b"\x01\0\x01\0\0\0\x02\0\x01\0\x04\x80\x1c\0\0\0\x2c\0\0\0\0\0\0\0H\0\0\0\x01\x02\0\0\0\0\0\x05\x20",
-        16,
-        NtReason::Offset,
-    ),
-    (
-        NtForm::Ntacl,
-        b"\x02\0\x02\0\0\0\x02\0\0\0\0\0\x28\x24\x2aUg\x16\xe5\xe8A\xcaJ\xd7\x3coG\x25\x01\0\x04\x84\x30\0\0\0\
-        L\0\0\0\0\0\0\0h\0\0\0\x01\x05\0\0\0\0\0\x05\x15\0\0\0\x0b\0\0\0\x16\0\0\0\x21\0\0\0Q\x04\0\0\x01\
-        \x05\0\0\0\0\0\x05\x15\0\0\0\x0b\0\0\0\x16\0\0\0\x21\0\0\0\xb1\x04\0\0\x02\0\x34\0\x02\0\0\0\0\xc0\
-        \x14\0\xa0\0\x12\0\x01\x01\0\0\0\0\0\x05\x09\0\0\0\0\xc0\x18\0\0\0\0\0\x01\x02\0\0\0\0\0\x05\x20\0\0\
-        \0\x21\x02\0\0",
-        8,
-        NtReason::Pointer,
-    ),
-    (
-        NtForm::Ntacl,
-        b"\x01\0\x01\x01\0\0\x02\0\x01\0\x04\x84\x1c\0\0\0\x38\0\0\0\0\0\0\0\0\0\0\0\x01\x05\0\0\0\0\0\x05\x15\
-        \0\0\0\x0b\0\0\0\x16\0\0\0\x21\0\0\0P\x04\0\0\x01\x05\0\0\0\0\0\x05\x15\0\0\0\x0b\0\0\0\x16\0\0\0\
-        \x21\0\0\0\xb1\x04\0\0",
-        2,
-        NtReason::Version,
-    ),
-];
+type FaultRow = (NtForm, &'static [u8], u64, NtReason);
 
 fn is_sid(sid: &Sid, row: SidRow) -> bool {
     sid.authority == row.0 && sid.words.as_slice() == row.1
@@ -323,7 +67,7 @@ fn count(descriptor: &NtDescriptor) -> Option<usize> {
 #[test]
 fn what_samba_reads_is_read_as_the_same(rt: HostRuntime) {
     let alloc = rt.alloc();
-    for row in &ROWS {
+    for row in descriptors::ROWS.iter().chain(&ntacl::ROWS) {
         match read_nt(alloc, row.form, row.value) {
             Ok(descriptor) => assert!(rt; is_row(&descriptor, row)),
             Err(fault) => assert!(rt; fault.reason == NtReason::Memory),
@@ -341,7 +85,7 @@ fn is_refused(alloc: Global, form: NtForm, value: &[u8], offset: u64, reason: Nt
 #[test]
 fn the_first_fault_is_reported(rt: HostRuntime) {
     let alloc = rt.alloc();
-    for (form, value, offset, reason) in FAULTS {
+    for (form, value, offset, reason) in descriptors::FAULTS.into_iter().chain(ntacl::FAULTS) {
         assert!(rt;
             is_refused(alloc, form, value, offset, reason),
             "{reason:?}"
@@ -439,7 +183,7 @@ mod ample {
     #[test]
     fn each_value_is_read(rt: HostRuntime) {
         let alloc = rt.alloc();
-        for row in &ROWS {
+        for row in descriptors::ROWS.iter().chain(&ntacl::ROWS) {
             assert!(rt; is_read(alloc, row));
         }
     }
@@ -454,7 +198,7 @@ mod ample {
     #[test]
     fn each_wrong_value_is_refused(rt: HostRuntime) {
         let alloc = rt.alloc();
-        for (form, value, offset, reason) in FAULTS {
+        for (form, value, offset, reason) in descriptors::FAULTS.into_iter().chain(ntacl::FAULTS) {
             assert!(rt; has_fault(alloc, form, value, NtFault { offset, reason }));
         }
     }
@@ -469,7 +213,7 @@ mod ample {
     #[test]
     fn each_value_is_read_in_part(rt: HostRuntime) {
         let alloc = rt.alloc();
-        for row in &ROWS {
+        for row in descriptors::ROWS.iter().chain(&ntacl::ROWS) {
             assert!(rt; is_part_read(alloc, row));
         }
     }

@@ -1,7 +1,7 @@
 use Rattle.std.proofs.Common.{◌≡◌, Bool, true, false, eqb, ap, refl, ◌∙◌}
 use Rattle.std.specs.Prelude.{bit_and, not}
 use Rattle.acl_perm.proofs.Sets.{inherit_only_test}
-use Rattle.acl_nt.proofs.mapping.is_for_object.Goals as goal
+use Rattle.acl_nt.proofs.ace.is_for_object.Goals as goal
 
 twice : (t : Bool) → t ≡ not (not t)
 twice true = refl
