@@ -1,7 +1,7 @@
 -- A SID at a place of a value (MS-DTYP, section 2.4.2.2): the revision 1, the number of
 -- sub-authorities, the authority in six bytes with the highest first, and the sub-authorities in
 -- four bytes each with the lowest first.
-use Rattle.std.specs.Prelude.{ℕ, ◌+◌, ◌*◌, ◌/◌, ◌==◌, List, [], ◌∷◌, length, drop, take, map, nat_le}
+use Rattle.std.specs.Prelude.{ℕ, ◌+◌, ◌*◌, ◌/◌, ◌==◌, ◌&&◌, Bool, List, [], ◌∷◌, length, drop, take, map, nat_le, Option, Some, None, if◌then◌else◌}
 use Rattle.std.specs.Simd.{first_chunks}
 use Rattle.byteorder.specs.Endian.{big_number, little_number}
 use Rattle.acl_nt.specs.Conditions.{Condition, check}
@@ -31,3 +31,14 @@ sid_at bytes at = record {
   authority = big_number 6 (drop (at + 2) bytes);
   words = sid_words (take (4 * word_count bytes at) (drop (at + 8) bytes));
 }
+
+-- ---- a SID alone
+
+-- the bytes have the header of a SID, and then as many sub-authorities as it says, and nothing more
+abbrev pub are_sid : List ℕ → Bool
+are_sid bytes = nat_le 8 (length bytes) && ((byte_at bytes 0 == 1)
+    && (nat_le (word_count bytes 0) most_words && (length bytes == 8 + 4 * word_count bytes 0)))
+
+-- the SID that the bytes are
+abbrev pub sid_of_bytes : List ℕ → Option Sid
+sid_of_bytes bytes = if are_sid bytes then Some (sid_at bytes 0) else None

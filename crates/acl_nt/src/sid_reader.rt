@@ -1,14 +1,34 @@
-//! Reads a SID at a place of a value.
-ghost use Rattle.std.specs.Prelude.{◌≡◌, ◌+◌, ◌*◌, ◌<◌, ◌≤◌, length, slice_index};
+//! Reads a SID at a place of a value, or from its own bytes.
+ghost use Rattle.std.specs.Prelude.{◌≡◌, ◌+◌, ◌*◌, ◌<◌, ◌≤◌, length, option_map, slice_index};
 ghost use Rattle.acl_nt.specs.Conditions.{first_unmet, ReadsUnder};
 ghost use Rattle.acl_nt.specs.Numbers.{place_limit};
 ghost use Rattle.acl_nt.specs.Sid.{sid};
-ghost use Rattle.acl_nt.specs.SidAt.{sid_at, sid_conditions, sid_words};
+ghost use Rattle.acl_nt.specs.SidAt.{are_sid, sid_at, sid_conditions, sid_of_bytes, sid_words};
 
 use crate::fault::{NtFault, NtReason};
 use crate::sid::Sid;
 use arrayvec::ArrayVec;
 use byteorder::{BigEndian, ByteOrder, LittleEndian};
+
+impl Sid {
+    /// Returns the SID that the bytes are (MS-DTYP, section 2.4.2.2), or `None` if they are none.
+    pub fn from_bytes(bytes: &[u8]) -> Option<Sid>
+        ensures { option_map sid result ≡ sid_of_bytes bytes.now }
+    {
+        if are_sid(bytes) {
+            Some(sid_in(bytes, 0))
+        } else {
+            None
+        }
+    }
+}
+
+fn are_sid(bytes: &[u8]) -> bool
+    ensures { result ≡ are_sid bytes.now }
+{
+    bytes.len() >= 8
+        && (bytes[0] == 1 && (bytes[1] <= 15 && bytes.len() == 8 + 4 * bytes[1] as usize))
+}
 
 // Returns what is wrong with the SID at a place, which ends at another place or before it.
 #[tactic(auto, unfolding(crate::specs::SidAt::sid_conditions))]

@@ -2,4 +2,5 @@
 
 mod lists;
 mod parts;
+mod sids;
 mod values;
