@@ -12,7 +12,7 @@ pub const ALLOW: Kind = Kind::Allow;
 pub const DENY: Kind = Kind::Deny;
 
 /// Returns the ACE of a row, or `None` if the row has a bit that is no flag or no right.
-pub fn ace_of((kind, flags, mask, who): AceRow) -> Option<AceRef<'static>> {
+pub fn ace_of((kind, flags, mask, who): (Kind, u32, u32, &[u8])) -> Option<AceRef<'_>> {
     Some(AceRef {
         kind,
         flags: Flags::new(flags)?,

@@ -10,7 +10,6 @@ pub mod laws;
 mod mask_rights;
 mod merged;
 mod normal_form;
-#[cfg(test)]
 pub mod plain;
 mod principal_class;
 mod reduce;
@@ -18,8 +17,6 @@ mod right_table;
 mod row_lines;
 mod rows;
 mod short_form;
-#[cfg(test)]
-mod tests;
 
 pub use comparison::{Difference, RequesterNames, compare, compare_views};
 pub use five_forms::{FiveForms, normalize_inherit};

@@ -113,7 +113,7 @@ pub fn normalize_view(alloc: Global, list: &AclView<'_>) -> Result<Acl, AllocErr
 }
 
 /// Returns the normal form of a list, in time that is nearly linear in the bytes of the list.
-pub(crate) fn long_form(alloc: Global, list: &AclView<'_>) -> Result<Acl, AllocError>
+pub fn long_form(alloc: Global, list: &AclView<'_>) -> Result<Acl, AllocError>
     ensures { IfOk result (λ form. IsNormalFormOf list.now form) }
 {
     let reduced = reduced_list(alloc, list)?;

@@ -1,5 +1,5 @@
-//! The normal form and the comparison in plain ways, with which the tests compare the fast functions. The module is
-//! compiled only with the tests.
+//! The normal form and the comparison in plain ways. The module is for tests, which compare the fast functions with
+//! these.
 
 mod by_rows;
 mod emission;

@@ -25,7 +25,7 @@ struct NeededRights {
 
 /// Returns the normal form of a list. It takes time that grows with the square of the number of ACEs, and takes the
 /// least for a short list.
-pub(crate) fn short_form(alloc: Global, list: &AclView<'_>) -> Result<Acl, AllocError>
+pub fn short_form(alloc: Global, list: &AclView<'_>) -> Result<Acl, AllocError>
     ensures { IfOk result (λ form. IsNormalFormOf list.now form) }
 {
     let aces = collect(alloc, list)?;

@@ -3,11 +3,10 @@
 //! lists of many groups differ is worked by hand from the first match (RFC 8881, section 6.2.1).
 
 use super::differences::is_shown_by_grants;
-use super::harness::{
-    ALLOW, AceRow, DENY, Dice, GROUP, INHERIT_ONLY, READ_DATA, ace_of, built, kept,
-};
-use crate::{Difference, compare, plain};
+use super::harness::{Dice, GROUP, INHERIT_ONLY, READ_DATA};
+use acl_lists_for_tests::{ALLOW, AceRow, DENY, ace_of, built, kept};
 use acl_nfs4::{Acl, PushFault};
+use acl_normal::{Difference, compare, plain};
 use acl_perm::Kind;
 use std::alloc::{AllocError, Global};
 use std::process::Abort;
@@ -143,7 +142,7 @@ fn found_of_next(
 
 fn push_group(list: &mut Acl, kind: Kind, number: u8) -> Result<(), PushFault> {
     let who = [b'a' + number / 16, b'a' + number % 16];
-    match ace_of(kind, GROUP, READ_DATA, &who) {
+    match ace_of((kind, GROUP, READ_DATA, &who)) {
         Some(ace) => list.push(ace),
         None => Ok(()),
     }

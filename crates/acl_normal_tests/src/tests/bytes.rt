@@ -1,9 +1,10 @@
 //! The bytes that spell normal forms. The bytes are written by hand (RFC 8881, section 6.2.1, and RFC 4506, sections
 //! 4.10 and 4.13).
 
-use super::harness::{ALLOW, AceRow, EVERYONE, NO_WRITE_FORM, built};
-use crate::{normal_bytes, normal_bytes_with};
+use super::harness::{EVERYONE, NO_WRITE_FORM};
+use acl_lists_for_tests::{ALLOW, AceRow, built};
 use acl_nfs4::{Acl, AclView, Fault, Reason};
+use acl_normal::{normal_bytes, normal_bytes_with};
 use acl_perm::{Flags, Mask, Profile};
 use std::alloc::Global;
 

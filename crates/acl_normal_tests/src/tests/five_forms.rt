@@ -1,9 +1,10 @@
 //! The five forms of lists of one ACE, by its flags (the rules of creation in docs/reference/lists.md, over RFC 8881,
 //! section 6.2.1.4.1).
 
-use super::harness::{ALLOW, READ_DATA, built, kept, passes};
-use crate::*;
+use super::harness::READ_DATA;
+use acl_lists_for_tests::{ALLOW, built, kept, passes};
 use acl_nfs4::{Acl, PushFault};
+use acl_normal::*;
 use acl_perm::Counted;
 use std::alloc::{AllocError, Global};
 use std::process::Abort;

@@ -1,12 +1,10 @@
 //! The tables of single rights of some lists: the ACEs of the normal form that have the right, worked by hand from
 //! docs/reference/lists.md ("The normal form").
 
-use super::harness::{
-    ALLOW, AMY, AceRow, DENY, EXECUTE, FOR_FILES, GROUP, NO_WRITE, READ_DATA, STAFF, WRITE_DATA,
-    built, kept, passes,
-};
-use crate::{BorrowedRow, Row, borrowed_rows, table};
+use super::harness::{AMY, EXECUTE, FOR_FILES, GROUP, NO_WRITE, READ_DATA, STAFF, WRITE_DATA};
+use acl_lists_for_tests::{ALLOW, AceRow, DENY, built, kept, passes};
 use acl_nfs4::{Acl, PushFault};
+use acl_normal::{BorrowedRow, Row, borrowed_rows, table};
 use acl_perm::{Kind, Mask};
 use std::alloc::{AllocError, Global};
 use std::process::Abort;

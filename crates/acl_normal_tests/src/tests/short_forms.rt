@@ -3,11 +3,11 @@
 //! nothing or little with it. Each way is compared with the others, over lists that look random, so no expected value
 //! is written here.
 
-use super::harness::{ALLOW, AceRow, DENY, Dice, GROUP, READ_DATA, WRITE_DATA, built, kept};
-use crate::normal_form::long_form;
-use crate::short_form::short_form;
-use crate::{normalize, plain};
+use super::harness::{Dice, GROUP, READ_DATA, WRITE_DATA};
+use acl_lists_for_tests::{ALLOW, AceRow, DENY, built, kept};
 use acl_nfs4::{Acl, PushFault};
+use acl_normal::internal::{long_form, short_form};
+use acl_normal::{normalize, plain};
 use std::alloc::{AllocError, Global};
 
 // Whom the ACEs of the lists below name, and with which flags.

@@ -2,9 +2,10 @@
 //! documentation of std): byte by byte, and the beginning of a name before the name. That a normal form has each name
 //! once follows from docs/reference/lists.md ("The normal form").
 
-use super::harness::{ALLOW, GROUP, READ_DATA, ace_of, kept, passes};
-use crate::normalize;
+use super::harness::{GROUP, READ_DATA};
+use acl_lists_for_tests::{ALLOW, ace_of, kept, passes};
 use acl_nfs4::{Acl, PushFault};
+use acl_normal::normalize;
 use std::alloc::Global;
 use std::process::Abort;
 
@@ -32,7 +33,7 @@ fn list_of(alloc: Global, start: usize, flags: u32, ends: &[&[u8]]) -> Result<Ac
     for end in ends {
         let mut name = kept(vec![in alloc; b'x'; start])?;
         kept(name.extend_from_slice(end))?;
-        if let Some(ace) = ace_of(ALLOW, flags, READ_DATA, &name) {
+        if let Some(ace) = ace_of((ALLOW, flags, READ_DATA, &name)) {
             list.push(ace)?;
         }
     }

@@ -2,11 +2,12 @@
 //! 6.2.1).
 
 use super::harness::{
-    ALLOW, AMY, AceRow, DENY, EVERYONE, EXECUTE, FOR_FILES, GROUP, NO_STAFF, NO_WRITE,
-    NO_WRITE_FORM, OWNER, READ_DATA, STAFF, WRITE_DATA, ace_of, built, kept, passes,
+    AMY, EVERYONE, EXECUTE, FOR_FILES, GROUP, NO_STAFF, NO_WRITE, NO_WRITE_FORM, OWNER, READ_DATA,
+    STAFF, WRITE_DATA,
 };
-use crate::{is_normal, normal_bytes, normalize, plain};
+use acl_lists_for_tests::{ALLOW, AceRow, DENY, ace_of, built, kept, passes};
 use acl_nfs4::{Acl, PushFault};
+use acl_normal::{is_normal, normal_bytes, normalize, plain};
 use std::alloc::{AllocError, Global};
 use std::process::Abort;
 
@@ -200,7 +201,7 @@ mod ample {
     fn allow_hundred(list: &mut Acl, first: u8) -> Result<(), PushFault> {
         for second in b"0123456789" {
             for third in b"0123456789" {
-                if let Some(ace) = ace_of(ALLOW, 0, READ_DATA, &[first, *second, *third]) {
+                if let Some(ace) = ace_of((ALLOW, 0, READ_DATA, &[first, *second, *third])) {
                     list.push(ace)?;
                 }
             }
@@ -217,7 +218,7 @@ mod ample {
             assert!(rt; is_normal(rt.alloc(), &list) == Ok(true));
         }
         assert!(rt; list.len() == 1_000);
-        if let Some(ace) = ace_of(ALLOW, 0, READ_DATA, b"0") {
+        if let Some(ace) = ace_of((ALLOW, 0, READ_DATA, b"0")) {
             list.push(ace)?;
         }
         assert!(rt; is_normal(rt.alloc(), &list) == Ok(false));
@@ -238,7 +239,7 @@ mod ample {
         rt: HostRuntime,
     ) -> Result<(), PushFault> {
         let mut list = repeated(rt.alloc(), &built(rt.alloc(), &[ALICE])?, 65_536)?;
-        if let Some(ace) = ace_of(ALLOW, 0, READ_DATA, b"bob") {
+        if let Some(ace) = ace_of((ALLOW, 0, READ_DATA, b"bob")) {
             assert!(rt; list.push(ace) == Err(PushFault::TooManyAces));
         }
         Ok(())

@@ -2,12 +2,11 @@
 //! what the lists grant there follows from the first match (RFC 8881, section 6.2.1). `grants` shows each difference
 //! too.
 
-use super::harness::{
-    ALLOW, AceRow, DENY, EXECUTE, GROUP, INHERIT_ONLY, READ_DATA, WRITE_DATA, built, kept, passes,
-};
-use crate::{Difference, compare, plain};
+use super::harness::{EXECUTE, GROUP, INHERIT_ONLY, READ_DATA, WRITE_DATA};
 use acl_eval::grants;
+use acl_lists_for_tests::{ALLOW, AceRow, DENY, built, kept, passes};
 use acl_nfs4::{Acl, PushFault};
+use acl_normal::{Difference, compare, plain};
 use acl_perm::Mask;
 use std::alloc::{AllocError, Global};
 use std::process::Abort;

@@ -1,8 +1,9 @@
 //! The rows of principals while one ACE after the other is emitted. By the first match (RFC 8881, section 6.2.1), an
 //! ALLOW of the owner must stay after an earlier DENY of a user who may be the owner.
 
-use super::harness::{NO_WRITE, READ_DATA, WRITE_DATA, built};
-use crate::MergedRows;
+use super::harness::{NO_WRITE, READ_DATA, WRITE_DATA};
+use acl_lists_for_tests::built;
+use acl_normal::MergedRows;
 use acl_perm::{Kind, Mask, Principal};
 use std::process::Abort;
 use std::test::Fail;

@@ -2,11 +2,12 @@
 //! `grants` (RFC 8881, section 6.2.1) must say the same.
 
 use super::differences::is_shown_by_grants;
-use super::harness::{ALLOW, AceRow, DENY, GROUP, READ_DATA, built, kept};
+use super::harness::{GROUP, READ_DATA};
 use super::small_situations::same_difference;
-use crate::internal::{Direction, searched};
-use crate::{compare, plain};
+use acl_lists_for_tests::{ALLOW, AceRow, DENY, built, kept};
 use acl_nfs4::{Acl, PushFault};
+use acl_normal::internal::{Direction, searched};
+use acl_normal::{compare, plain};
 use std::alloc::{AllocError, Global};
 use std::process::Abort;
 

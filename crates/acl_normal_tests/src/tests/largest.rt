@@ -1,8 +1,8 @@
 //! The largest list: as many ACEs as a list may have, each with a principal of its own, in 1,572,868 bytes. The bytes
 //! are written by hand (RFC 8881, section 6.2.1, and RFC 4506, sections 4.10 and 4.13).
 
-use crate::normal_bytes;
 use acl_nfs4::{Fault, Reason};
+use acl_normal::normal_bytes;
 use std::alloc::{AllocError, Global};
 use std::test::Fail;
 

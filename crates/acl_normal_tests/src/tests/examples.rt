@@ -2,9 +2,9 @@
 //! values are worked by hand: what a list grants from RFC 8881, section 6.2.1, and the normal form, its table and the
 //! five forms from docs/reference/lists.md and docs/proofs/proofs.md.
 
-use crate::*;
 use acl_eval::decided;
 use acl_nfs4::{AclView, parse_text};
+use acl_normal::*;
 use acl_perm::{Kind, Mask};
 use std::test::Fail;
 
