@@ -35,6 +35,13 @@ class _Parser(argparse.ArgumentParser):
         (file or sys.stderr).write(message)  # that of argparse says nothing of a failure
 
 
+def _from_1(word: str) -> int:
+    """Returns the number that a word is. Raises ArgumentTypeError if it is none from 1 on."""
+    if not word.isascii() or not word.isdigit() or int(word) < 1:
+        raise argparse.ArgumentTypeError("it is not a number from 1 on")
+    return int(word)
+
+
 PEOPLE_HELP = "who is asked about: lines `name: group group ..`, or LDIF or CSV if FILE ends with .ldif or .csv"
 """What `--help` says of `--people`."""
 
@@ -76,8 +83,8 @@ _LINUX_OR_DRAFT: _Arguments = [
     [("--linux", dict(action="store_true", help="ask POSIX ACLs as Linux does where their mask is empty, as is done "
                       "anyway if this host was scanned")),
      ("--draft", dict(action="store_true", help="ask POSIX ACLs as acl(5) says"))]]
-_JUDGEMENTS: _Argument = ("--judgements", dict(type=int, default=1_000_000, metavar="N", help="how many judgements of "
-                                               "lists by bounds of the policy may be made (1,000,000)"))
+_JUDGEMENTS: _Argument = ("--judgements", dict(type=_from_1, default=1_000_000, metavar="N", help="how many judgements "
+                                               "of lists by bounds of the policy may be made (1,000,000)"))
 _FORM: _Arguments = [
     [("--csv", dict(dest="form", action="store_const", const=Form.CSV, default=Form.TEXT,
                     help="write CSV, one line per object or answer")),

@@ -6,7 +6,7 @@ from __future__ import annotations
 import functools
 import itertools
 from dataclasses import dataclass
-from typing import Dict, Iterable, Iterator, List, NamedTuple, Optional, Set, Tuple
+from typing import Collection, Dict, Iterator, List, NamedTuple, Optional, Set, Tuple
 
 from aclck_tree.answer.ask import Asker
 from aclck_tree.answer.obtain import Place
@@ -23,6 +23,12 @@ _MOST_KNOWN = 1_000_000
 
 MOST_WAYS = 1_000_000
 """In how many ways objects may break rules if the objects of each are counted."""
+
+MOST_MATCHES = 4_000_000
+"""How many patterns the different sets of patterns that match an object may have together."""
+
+_Question = Tuple[int, int, bool, Optional[Place]]
+"""What the answer about an object depends on: the rule, the face, whether new objects are asked about, and the place."""
 
 
 class Applied(NamedTuple):
@@ -55,7 +61,7 @@ class Broken(NamedTuple):
 
 @dataclass(frozen=True, eq=False)
 class Applying:
-    """All rules that apply to an object. Equal ones of one policy are one object."""
+    """All rules that apply to an object. A policy has one for all objects that the same patterns match."""
 
     rules: Tuple[Applied, ...]
     alike: Tuple[Alike, ...]
@@ -63,8 +69,8 @@ class Applying:
 
 
 class Key(NamedTuple):
-    """What it depends on how an object breaks rules: its face, whether it is a directory, the rules, and its place if
-    one of them asks for it."""
+    """How an object breaks rules depends on its face, whether it is a directory, the rules that apply to it, and its
+    place if one of them asks for it."""
 
     face: int
     is_directory: bool
@@ -96,7 +102,7 @@ class Policy:
         self._last: Optional[Tuple[Tuple[int, ...], Applying]] = None
         self._matches = 0  # how many patterns match in the different combinations
         self._each: Dict[Applied, Applied] = {}  # one of each, because objects share them
-        self._known: Dict[Tuple[int, int, bool, Optional[Place]], Tuple[Breach, ...]] = {}
+        self._known: Dict[_Question, Tuple[Breach, ...]] = {}
         self._same: Dict[Tuple[Breach, ...], Tuple[Breach, ...]] = {}
 
     def applied(self, tree: int, path: bytes) -> Applying:
@@ -111,12 +117,12 @@ class Policy:
         return self._last[1]
 
     def _applying(self, matched: Tuple[int, ...]) -> Applying:
-        """Returns the rules that apply where some patterns match. Raises TreeError if the patterns match in so many
-        combinations that there is no room for them."""
+        """Returns the rules that apply where some patterns match. Raises TreeError if the different sets of patterns
+        have so many together that there is no room for them."""
         self._matches += len(matched)
-        if self._matches > self._most:
-            raise TreeError(f"{quoted(self._place)}: patterns match objects in combinations that have more than "
-                            f"{self._most:,} patterns together: see --judgements")
+        if self._matches > MOST_MATCHES:
+            raise TreeError(f"{quoted(self._place)}: the different sets of patterns that match an object have more "
+                            f"than {MOST_MATCHES:,} patterns together")
         rules: Dict[int, Optional[int]] = {}
         exempt: Dict[int, int] = {}
         for rule, place in map(self._meant.__getitem__, matched):
@@ -148,12 +154,18 @@ class Policy:
         """Whether too many judgements may be made about so many classes of objects, to which any rules apply."""
         return classes * len(set(self._firsts)) > self._most
 
-    def refuse_many(self, keys: Iterable[Key]) -> None:
-        """Raises TreeError if too many judgements about different objects are to be made."""
-        judgements = sum(len(key.applied.alike) for key in keys)
-        if judgements > self._most:
-            raise TreeError(f"{quoted(self._place)}: {plural(judgements, 'judgement')} of lists by bounds would be "
-                            f"made, and at most {self._most:,} may be: see --judgements")
+    def refuse_many(self, keys: Collection[Key]) -> None:
+        """Raises TreeError if too many judgements about different objects are to be made. They are counted one by one
+        only if there may be too many."""
+        if sum(len(key.applied.alike) for key in keys) <= self._most:
+            return
+        questions: Set[_Question] = set()
+        for key in keys:
+            questions.update(self._question(alike.first, key.face, key.is_directory, key.place)
+                             for alike in key.applied.alike)
+            if len(questions) > self._most:
+                raise TreeError(f"{quoted(self._place)}: more than {plural(self._most, 'judgement')} of lists by "
+                                "bounds would be made: see --judgements")
 
     def refuse_ways(self, ways: int) -> None:
         """Raises TreeError if objects break rules in too many ways to count the objects of each."""
@@ -168,11 +180,15 @@ class Policy:
             if found:
                 yield Broken(alike, found)
 
+    def _question(self, rule: int, face: int, is_directory: bool, place: Optional[Place]) -> _Question:
+        """Returns what it depends on how an object breaks a rule."""
+        one = self.rules[rule]
+        return rule, face, is_directory and one.children, place if one.at_most_obtainable else None
+
     def _breaches(self, rule: int, face: int, is_directory: bool, place: Optional[Place]) -> Tuple[Breach, ...]:
         """Returns how objects break a rule."""
-        one = self.rules[rule]
-        key = (rule, face, is_directory and one.children, place if one.at_most_obtainable else None)
-        known = self._known.get(key)
+        one, question = self.rules[rule], self._question(rule, face, is_directory, place)
+        known = self._known.get(question)
         if known is None:
             if len(self._known) > _MOST_KNOWN:
                 self._known.clear()
@@ -180,7 +196,7 @@ class Policy:
             found = self._judge.breaches(one, face, is_directory)
             if self._obtaining and one.at_most_obtainable and place:
                 found += tuple(self._obtaining.breaches(one, face, place))
-            known = self._known[key] = self._same.setdefault(found, found)
+            known = self._known[question] = self._same.setdefault(found, found)
         return known
 
     def decided_by(self, one: Breach, name: ObjectName) -> str:
