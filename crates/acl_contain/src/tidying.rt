@@ -17,12 +17,12 @@ use joining::Joining;
 use numbers::Numbers;
 use std::alloc::{AllocError, Global};
 
-/// Returns a list that grants the same on the object itself, and has fewer ACEs if some can be joined (this library's
-/// own, over RFC 8881, section 6.2.1). The rights that are not needed go, and so does each ACE that then has no right.
-/// The rights of each other ACE go to the last ACE before it of the same kind and principal, unless an ACE between them
-/// decides one of these rights otherwise for somebody whom both match. New objects inherit nothing from the result: of
-/// the flags it has only IDENTIFIER_GROUP, on named groups. It need not be a shortest list. It takes time that is
-/// nearly linear in the bytes of the list. Fails if memory runs out.
+/// Returns a list that grants the same on the object itself, and has fewer ACEs if some can be joined into earlier ones
+/// (this library's own, over RFC 8881, section 6.2.1). The rights that are not needed go, and so does each ACE that then
+/// has no right. The rights of each other ACE go to the last ACE before it of the same kind and principal, unless an ACE
+/// between them decides one of these rights otherwise for somebody whom both match. New objects inherit nothing from the
+/// result: of the flags it has only IDENTIFIER_GROUP, on named groups. It need not be a shortest list. It takes time that
+/// is nearly linear in the bytes of the list. Fails if memory runs out.
 ///
 /// ```rust
 /// let list = parse_text(alloc, b"ALLOW - READ_DATA amy\nDENY - EXECUTE bob\nALLOW - WRITE_DATA amy\n")?;

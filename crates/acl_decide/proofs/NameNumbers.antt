@@ -17,11 +17,6 @@ use Rattle.acl_decide.specs.declared.out_names.OutNames.{OutNames}
 
 -- ---- one more number
 
--- before the first ACE, no name has a number
-pub none_numbered : (known : BTreeMap (Bor (List ℕ)) ℕ) → known.entries ≡ []
-    → (who : List ℕ) → name_number known who ≡ None
-none_numbered known none who = rw none refl
-
 -- a new name has the number that was given
 pub marked : (old new : BTreeMap (Bor (List ℕ)) ℕ) (who : List ℕ) (number : ℕ)
     → UpdatesBy (λ x y. slice_cmp nat_cmp x.now y.now) (λ k. slice_cmp nat_cmp who k.now) old new (Some number)
@@ -68,15 +63,6 @@ marked old new who number updates fresh last long = record {
         absurd (omega (arith, same n other k ce, last, numbered.below one n (sym (miss one be) ∙ h)))
     apart numbered one other n h k false false be ce =
         numbered.apart one other n (sym (miss one be) ∙ h) (sym (miss other ce) ∙ k)
-
--- a name that has a number keeps it
-pub marked_before : (known : BTreeMap (Bor (List ℕ)) ℕ) (who : List ℕ) (number : ℕ) → name_number known who ≡ Some number
-    → GivesNumberTo known who number known
-marked_before known who number is = record {
-  is = is;
-  kept = λ other n h. h;
-  numbered = λ numbered. numbered;
-}
 
 -- the numbers of the ACEs so far, and that of the next one
 pub numbers_more : (old new : BTreeMap (Bor (List ℕ)) ℕ) (a : AceRef) (number : ℕ) (aces : List AceRef)

@@ -12,11 +12,11 @@ use std::collections::BTreeMap;
 /// when it gets its number. After that, whether it is out is read by the place of its ACE.
 #[derive(Drop)]
 pub(crate) struct OutNames<'a> {
-    // the number of each name
+    /// The number of each name.
     known: BTreeMap<&'a [u8], usize>,
-    // the number of the name of each ACE, by the place of the ACE, and 0 for a known name
+    /// By the place of an ACE, the number of its name, and 0 if its name is known.
     numbers: Vec<usize>,
-    // whether a name is out, by its number
+    /// By the number of a name, whether it is out.
     out: Vec<bool>,
 }
 
@@ -43,7 +43,8 @@ impl<'a> OutNames<'a> {
     /// Returns whether the name of the ACE at this place is out.
     pub(crate) fn has(&self, place: usize) -> bool
         requires place { place < length self.now.numbers.items }
-        requires number { slice_index_or self.now.numbers.items place 0 < length self.now.out.items }
+        requires number { slice_index_or self.now.numbers.items place 0
+            < length self.now.out.items }
         ensures { result
             ≡ slice_index_or self.now.out.items (slice_index_or self.now.numbers.items place 0) false }
     {
@@ -54,7 +55,8 @@ impl<'a> OutNames<'a> {
     pub(crate) fn add(&mut self, who: &'a [u8])
         requires { (n : ℕ) → name_number self.old.known who.now ≡ Some n
             → n < length self.old.out.items }
-        ensures more { (aces : List AceRefValue) → IsFor aces self.old → IsUnknownNameIn aces who.now
+        ensures more { (aces : List AceRefValue) → IsFor aces self.old
+            → IsUnknownNameIn aces who.now
             → IsOneMore (is_out self.old) who.now (is_out self.new) }
         ensures kept { (aces : List AceRefValue) → IsFor aces self.old → IsFor aces self.new }
     {

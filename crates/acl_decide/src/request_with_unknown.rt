@@ -31,9 +31,8 @@ pub enum RequestAnswer {
 /// Returns whether the list grants the whole request, as `grants` does, for every assignment of matches to the special
 /// identifiers that nobody knows, for none, or for some. This is more than `decided_with_unknown` says of each right:
 /// two rights may each be granted and never both, since a name matches for both or for none. If `decided_with_unknown`
-/// does not answer already, it looks each name up once, and reads the list about once for each right of the mask. So
-/// the time is proportional to the number of ACEs, times the number of rights, and to that of the look-ups. Fails if
-/// memory runs out for the names.
+/// does not answer already, it numbers the unknown identifiers, in time n log n for n ACEs, and reads the list about once
+/// for each right of the mask. Fails if memory runs out for the names.
 pub fn request_answer(
     alloc: Global,
     part: &AccessPart<'_>,

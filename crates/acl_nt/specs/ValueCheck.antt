@@ -1,7 +1,8 @@
 -- The access check of the whole DACL of a value (MS-DTYP, section 2.5.3.2), which may have ACEs of
 -- the types that a part leaves out. Which rights an ALLOW with object types or a condition grants,
 -- or whether it grants any, depends on more than the value has. So the rights that the ACE at each
--- place grants are given here. The types of a SACL neither grant nor deny.
+-- place grants are given here. The types of a SACL neither grant nor deny. A value with an ACE of
+-- any other type, as a DENY with object types or a condition, has no part, and is not meant here.
 use Rattle.std.specs.Prelude.{ℕ, Bool, true, ◌&&◌, ◌||◌, not, ◌+◌, ◌==◌, if◌then◌else◌, List, [], ◌∷◌, map, Option, bit_and}
 use Rattle.acl_eval.specs.Scan.{without}
 use Rattle.acl_nt.specs.AceAt.{nt_ace_at}
@@ -50,7 +51,7 @@ all_types_grant named given (a ∷ aces) left =
     else (bit_and left (denied_by a) == 0
     && all_types_grant named given aces (without left (granted_by given a)))
 
--- The check of ACEs of all types. An ACE for OWNER RIGHTS takes READ_CONTROL and WRITE_DAC from the
+-- The check of the ACEs of a value that has a part. An ACE for OWNER RIGHTS takes READ_CONTROL and WRITE_DAC from the
 -- owner, whatever its type is.
 abbrev pub typed_aces_grant : Option Sid → List Sid → (ℕ → ℕ) → List TypedAce → ℕ → Bool
 typed_aces_grant owner token given aces request =

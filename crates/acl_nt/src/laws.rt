@@ -30,7 +30,7 @@ pub fn part_grants_no_more()
     ensures at_most { (form : NtForm) (bytes : List ℕ) (part : Descriptor) (out : List OtherAce)
         → SpellsDescriptorPart form part out bytes → (token : List Sid) (given : ℕ → ℕ) (request : ℕ)
         → IsTrue (nt_check part token request) → IsTrue (value_check form bytes token given request) }
-    ensures at_least { (form : NtForm) (bytes : List ℕ) (part : Descriptor) (out : List OtherAce)
+    ensures same { (form : NtForm) (bytes : List ℕ) (part : Descriptor) (out : List OtherAce)
         → SpellsDescriptorPart form part out bytes → (token : List Sid) (request : ℕ)
         → value_check form bytes token (λ _. 0) request ≡ nt_check part token request }
 {}
